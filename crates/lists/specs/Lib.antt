@@ -1,0 +1,3 @@
+pub mod Trade
+pub mod Promise
+pub mod Refusals

@@ -1,0 +1,2 @@
+// The lists of a year: their bytes, the refusals, and the definitions of the exchange that every crate above cites.
+pub mod refusals;
