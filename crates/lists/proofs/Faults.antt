@@ -30,8 +30,8 @@ a-number false x y e = (refl, cc)
 pub stands-step : (bs : List ℕ) (n own : ℕ) (before : List ℕ) (left p : ℕ) → 0 < left →
     stands-fault bs n own before left p
     ≡ cond (ltb (length bs) (p + 2)) (Some (WrongLength (length bs)))
-        (cond (may-list n own before (number-at bs p)) (stands-fault bs n own (number-at bs p ∷ before) (left - 1) (p + 2))
-        (Some (WrongStand p)))
+    (cond (may-list n own before (number-at bs p)) (stands-fault bs n own (number-at bs p ∷ before) (left - 1) (p + 2))
+    (Some (WrongStand p)))
 unfolding stands-fault
 stands-step bs n own before zero p h = absurd (omega arith)
 stands-step bs n own before (suc k) p h = let e : suc k - 1 ≡ k = omega arith in rw e
@@ -42,8 +42,7 @@ unfolding stands-fault
 stands-none bs n own before left p whole so-far h = sym so-far ∙ rw h
 
 module _ (bs : List ℕ) (n own : ℕ) (before : List ℕ) (left p : ℕ) (whole : Option Refusal)
-  (so-far : stands-fault bs n own before left p ≡ whole) (more : 0 < left) where
-
+    (so-far : stands-fault bs n own before left p ≡ whole) (more : 0 < left) where
   pub stands-end : ltb (length bs) (p + 2) ≡ true → whole ≡ Some (WrongLength (length bs))
   stands-end e = sym so-far ∙ (stands-step bs n own before left p more ∙ rw e)
 
@@ -59,12 +58,11 @@ module _ (bs : List ℕ) (n own : ℕ) (before : List ℕ) (left p : ℕ) (whole
       let w′ : may-list n own before (number-at bs p) ≡ true = rw is at w in
       let r : left - 1 ≡ rest = omega arith in
       let now : stands-fault bs n own (number-at bs p ∷ before) (left - 1) (p + 2) ≡ whole =
-          sym (sym so-far ∙ (stands-step bs n own before left p more ∙ rw (e, w′))) in
+      sym (sym so-far ∙ (stands-step bs n own before left p more ∙ rw (e, w′))) in
       rw (is, ← r) now
 
 -- a stand that may not be listed, and one that may
 module _ (n own t : ℕ) (before : List ℕ) where
-
   pub no-such-stand : n ≤ t → may-list n own before t ≡ false
   no-such-stand h = grind arith
 
@@ -83,19 +81,20 @@ pub marks-more : (seen : List ℕ) (own t : ℕ) (before : List ℕ) → t < len
     (u : ℕ) → eqb (getD (set seen t (own + 1)) u 0) (own + 1) ≡ member u (t ∷ before)
 marks-more seen own t before h m u =
     elim (cases-eq u t) [
-      inl e ↦ let same = getD-set-same seen t (own + 1) 0 h in grind arith
-    | inr ne ↦ let other = getD-set-other seen t u (own + 1) 0 ne in let mu = m u in grind arith ]
+      | inl e ↦ let same = getD-set-same seen t (own + 1) 0 h in grind arith
+      | inr ne ↦ let other = getD-set-other seen t u (own + 1) 0 ne in let mu = m u in grind arith
+    ]
 
 pub marks-bound : (seen : List ℕ) (own t : ℕ) → t < length seen → ((u : ℕ) → getD seen u 0 ≤ own + 1) →
     (u : ℕ) → getD (set seen t (own + 1)) u 0 ≤ own + 1
 marks-bound seen own t h m u =
     elim (cases-eq u t) [
-      inl e ↦ let same = getD-set-same seen t (own + 1) 0 h in grind arith
-    | inr ne ↦ let other = getD-set-other seen t u (own + 1) 0 ne in let mu = m u in grind arith ]
+      | inl e ↦ let same = getD-set-same seen t (own + 1) 0 h in grind arith
+      | inr ne ↦ let other = getD-set-other seen t u (own + 1) 0 ne in let mu = m u in grind arith
+    ]
 
 -- one list, and the end of all lists
 module _ (bs : List ℕ) (n own left p : ℕ) (whole : Option Refusal) (so-far : lists-fault bs n own left p ≡ whole) where
-
   pub lists-wrong : (f : Refusal) → 0 < left → list-fault bs n own p ≡ Some f → whole ≡ Some f
   unfolding lists-fault
   lists-wrong f more e = sym so-far ∙ lists-step left more

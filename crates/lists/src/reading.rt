@@ -11,6 +11,7 @@ ghost use Rattle.lists.specs.Format.{fault, list-bytes, list-fault, next-start
 use crate::refusals::Refusal;
 
 const MOST_TRADERS: u16 = 4000;
+
 const MOST_STANDS: u8 = 40;
 
 // The two-byte number whose first byte is byte `at`; None where the bytes end before it does.
@@ -25,7 +26,14 @@ fn number_in(bytes: &[u8], at: usize) -> Option<u16>
 
 // Reads `count` stands of trader `own` from byte `from` on, and hands on where they end. `seen` has own + 1 at the stands
 // that this list has named so far, and less at all others, so that a look at one entry tells a stand named twice.
-fn read_stands(bytes: &[u8], n: u16, own: u16, count: u8, from: usize, seen: &mut [u16]) -> Result<usize, Refusal>
+fn read_stands(
+    bytes: &[u8],
+    n: u16,
+    own: u16,
+    count: u8,
+    from: usize,
+    seen: &mut [u16],
+) -> Result<usize, Refusal>
     requires bound { ⌜ own < n ⌝ ∗ ⌜ n ≤ 4000 ⌝ }
     requires room { ⌜ length (now seen) ≡ 4000 ⌝ }
     requires fresh { ⌜ ((t : ℕ) → getD (now seen) t 0 ≤ own) ⌝ }
@@ -83,4 +91,31 @@ pub fn read(bytes: &[u8]) -> Result<u16, Refusal>
         return Err(Refusal::WrongLength { at });
     }
     Ok(n)
+}
+
+// Where the list of a trader begins: its count's byte. It is found by going over the lists before it.
+pub fn start_of(bytes: &[u8], trader: u16) -> usize
+    ensures { λ r. ⌜ r ≡ start (now (bytes .entry)) trader ⌝ }
+{
+    let mut at = 2;
+    for i in 0..trader {
+        let count = if at < bytes.len() { bytes[at] } else { 0 };
+        at += 1 + 2 * count as usize;
+    }
+    at
+}
+
+// The bytes of the stands of the list that begins at byte `at`, a part of the bytes; None where they do not all stand there.
+// In accepted bytes that is trader i's list, for every trader i whose list begins there.
+pub fn list_at(bytes: &[u8], at: usize) -> Option<&[u8]>
+    ensures part { λ r. ⌜ BySome r (length (now (bytes .entry)) < next-start (now (bytes .entry)) at) (λ s. (now s ≡ list-bytes (now (bytes .entry)) at) × (next-start (now (bytes .entry)) at ≤ length (now (bytes .entry)))) ⌝ }
+{
+    if at >= bytes.len() {
+        return None;
+    }
+    let size = 2 * bytes[at] as usize;
+    if bytes.len() - at - 1 < size {
+        return None;
+    }
+    Some(&bytes[at + 1..at + 1 + size])
 }

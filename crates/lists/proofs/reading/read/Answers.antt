@@ -33,17 +33,18 @@ returns-in-Break-at c =
     let all = faults-of-lists (c .args .bytes .now) (c .in-Some .n) (there .0) (there .1) (c .if-n-eq0 .left) (c .if-n-gt-MOST-TRADERS .left) in
     let more : 0 < c .in-Some .n - c .loop-own .own = omega arith in
     let wrong = lists-wrong (c .args .bytes .now) (c .in-Some .n) (c .loop-own .own) _ (c .loop-own .at) _ (c .loop-own .inv .0) _ more
-                (refused-fault _ _ _ (c .in-Break-at .ensures tt .answer)) in
+    (refused-fault _ _ _ (c .in-Break-at .ensures tt .answer)) in
     rw (p .1, p .2) (simp (all ∙ wrong))
 
 pub loop-own-again : need.loop-own-again
 loop-own-again c =
     let one : c .in-Some .n - c .loop-own .own ≡ c .in-Some .n - (c .loop-own .own + 1) + 1 = omega arith in
-    let ok = no-fault _ _ _ (c .in-Continue-at .ensures tt .answer) in
-    (lists-next (c .args .bytes .now) (c .in-Some .n) (c .loop-own .own) _ (c .loop-own .at) _ (c .loop-own .inv .0)
-     (c .loop-own .own + 1) _ _ refl one (ok .0) (ok .1),
-     c .read-list .ensures .marks,
-     c .read-list .kept .seen ∙ c .loop-own .inv .2)
+    let ok = no-fault _ _ _ (c .in-Continue-at .ensures tt .answer) in (
+      lists-next (c .args .bytes .now) (c .in-Some .n) (c .loop-own .own) _ (c .loop-own .at) _ (c .loop-own .inv .0)
+          (c .loop-own .own + 1) _ _ refl one (ok .0) (ok .1),
+      c .read-list .ensures .marks,
+      c .read-list .kept .seen ∙ c .loop-own .inv .2,
+    )
 
 pub returns-then-at-bytes : need.returns-then-at-bytes
 returns-then-at-bytes c =

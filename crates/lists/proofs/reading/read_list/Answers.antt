@@ -16,7 +16,8 @@ unfolding list-fault
 returns-then-count-gt-MOST-STANDS c =
     record {
       answer = simp (lt-ltb _ _ (c .if-at-bytes .left), lt-ltb _ _ (c .if-count-gt-MOST-STANDS .taken));
-      marks = λ t. omega (arith, c .pre .fresh t) }
+      marks = λ t. omega (arith, c .pre .fresh t);
+    }
 
 pub returns : need.returns
 unfolding list-fault
@@ -24,4 +25,5 @@ returns c =
     let e : c .args .at + 1 + 2 * getD (c .args .bytes .now) (c .args .at) 0 ≡ next-start (c .args .bytes .now) (c .args .at) = refl in
     record {
       answer = c .read-stands .ensures .answer ∙ simp (lt-ltb _ _ (c .if-at-bytes .left), le-ltb _ _ (c .if-count-gt-MOST-STANDS .left));
-      marks = c .read-stands .ensures .marks }
+      marks = c .read-stands .ensures .marks;
+    }

@@ -26,10 +26,11 @@ returns-then-stand-n c =
     let before = c .loop-k .inv .0 in
     let t = c .in-Some .stand in
     let bad : may-list (c .args .n) (c .args .own) before t ≡ false =
-        elim (c .then-stand-n .came) [
-          then-stand-n·by·then-stand-n w ↦ no-such-stand _ _ t before (w .if-stand-n .taken)
-        | then-stand-n·by·else-stand-n·then-stand-own w ↦ own-stand _ _ t before (w .if-stand-own .taken)
-        | then-stand-n·by·else-stand-n·else-stand-own·then-seen-stand w ↦ listed-before _ _ t before (sym (c .loop-k .inv .2 t) ∙ eq-eqb _ _ (w .if-seen-stand .taken)) ] in
+    elim (c .then-stand-n .came) [
+      | then-stand-n·by·then-stand-n w ↦ no-such-stand _ _ t before (w .if-stand-n .taken)
+      | then-stand-n·by·else-stand-n·then-stand-own w ↦ own-stand _ _ t before (w .if-stand-own .taken)
+      | then-stand-n·by·else-stand-n·else-stand-own·then-seen-stand w ↦ listed-before _ _ t before (sym (c .loop-k .inv .2 t) ∙ eq-eqb _ _ (w .if-seen-stand .taken))
+    ] in
     let wrong = stands-wrong (c .args .bytes .now) (c .args .n) (c .args .own) before _ (c .loop-k .at) _ (c .loop-k .inv .1) more t (there .1) (there .0) bad in
     record { answer = simp wrong; marks = c .loop-k .inv .3 }
 
@@ -42,12 +43,13 @@ loop-k-again c =
     let before = c .loop-k .inv .0 in
     let t = c .in-Some .stand in
     let fine = listable (c .args .n) (c .args .own) t before (c .if-stand-n .left) (c .if-stand-own .left)
-               (sym (c .loop-k .inv .2 t) ∙ ne-eqb _ _ (c .if-seen-stand .left)) in
-    (t ∷ before,
-     stands-next (c .args .bytes .now) (c .args .n) (c .args .own) before _ (c .loop-k .at) _ (c .loop-k .inv .1) more t _ (there .1) one (there .0) fine,
-     marks-more (c .loop-k .seen) (c .args .own) t before within (c .loop-k .inv .2),
-     marks-bound (c .loop-k .seen) (c .args .own) t within (c .loop-k .inv .3),
-     omega arith)
+    (sym (c .loop-k .inv .2 t) ∙ ne-eqb _ _ (c .if-seen-stand .left)) in (
+      t ∷ before,
+      stands-next (c .args .bytes .now) (c .args .n) (c .args .own) before _ (c .loop-k .at) _ (c .loop-k .inv .1) more t _ (there .1) one (there .0) fine,
+      marks-more (c .loop-k .seen) (c .args .own) t before within (c .loop-k .inv .2),
+      marks-bound (c .loop-k .seen) (c .args .own) t within (c .loop-k .inv .3),
+      omega arith,
+    )
 
 pub returns : need.returns
 returns c =
