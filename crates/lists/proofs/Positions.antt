@@ -7,4 +7,4 @@ use Rattle.lists.specs.Format.{start, next-start}
 
 pub start-more : (bs : List ℕ) (i : ℕ) → start bs (i + 1) ≡ next-start bs (start bs i)
 unfolding start
-start-more bs i = rw add-one i
+start-more bs i = rw (add-one i)
