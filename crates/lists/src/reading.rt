@@ -99,7 +99,7 @@ pub fn start_of(bytes: &[u8], trader: u16) -> usize
 {
     let mut at = 2;
     for i in 0..trader {
-        let count = if at < bytes.len() { bytes[at] } else { 0 };
+        let count = if at >= bytes.len() { 0 } else { bytes[at] };
         at += 1 + 2 * count as usize;
     }
     at
@@ -118,4 +118,62 @@ pub fn list_at(bytes: &[u8], at: usize) -> Option<&[u8]>
         return None;
     }
     Some(&bytes[at + 1..at + 1 + size])
+}
+
+#[cfg(test)]
+mod tests {
+    use super::*;
+    use std::test::*;
+
+    // the number and the place of a refusal, or 0 and the number of traders
+    fn outcome(bytes: &[u8]) -> (u8, usize) {
+        match read(bytes) {
+            Ok(n) => (0, n as usize),
+            Err(refusal) => (refusal.number(), refusal.place()),
+        }
+    }
+
+    #[test]
+    fn refusals_have_number_and_place() -> Result<(), Fail> {
+        check_eq(outcome(&[]), (1, 0))?;
+        check_eq(outcome(&[1]), (1, 1))?;
+        check_eq(outcome(&[0, 0]), (2, 0))?;
+        check_eq(outcome(&[0xa1, 0x0f]), (2, 0))?;
+        check_eq(outcome(&[2, 0, 0]), (1, 3))?;
+        check_eq(outcome(&[2, 0, 41, 0, 0]), (3, 2))?;
+        check_eq(outcome(&[2, 0, 1, 1]), (1, 4))?;
+        check_eq(outcome(&[2, 0, 1, 2, 0, 0]), (4, 3))?;
+        check_eq(outcome(&[2, 0, 0, 1, 1, 0]), (4, 4))?;
+        check_eq(outcome(&[3, 0, 2, 1, 0, 1, 0, 0, 0]), (4, 5))?;
+        check_eq(outcome(&[3, 0, 0, 0, 1, 0, 0, 9]), (1, 7))
+    }
+
+    #[test]
+    fn accepted_years(rt: LibcRuntime) -> Result<(), Fail> {
+        check_eq(outcome(&[1, 0, 0]), (0, 1))?;
+        check_eq(outcome(&[3, 0, 1, 1, 0, 1, 2, 0, 2, 1, 0, 0, 0]), (0, 3))?;
+        let mut most = vec![in rt.alloc(); 0u8; 4002]?;
+        check(most.len() == 4002)?;
+        most[0] = 0xa0;
+        most[1] = 0x0f;
+        check_eq(outcome(most.as_slice()), (0, 4000))?;
+        most[2] = 40;
+        check_eq(outcome(most.as_slice()).0, 4)?;
+        most[2] = 41;
+        check_eq(outcome(most.as_slice()), (3, 2))
+    }
+
+    #[test]
+    fn a_list_of_forty(rt: LibcRuntime) -> Result<(), Fail> {
+        let mut bytes = vec![in rt.alloc(); 41, 0, 40]?;
+        for stand in 1..41u8 {
+            bytes.push(stand)?;
+            bytes.push(0)?;
+        }
+        for _ in 0..40 {
+            bytes.push(0)?;
+        }
+        check_eq(outcome(bytes.as_slice()), (0, 41))?;
+        check_eq(start_of(bytes.as_slice(), 1), 83)
+    }
 }

@@ -19,7 +19,7 @@ loop-i-again c =
     let bs = c .args .bytes .now in
     let at = c .loop-i .at in
     let count : c .if-at-bytes .count ≡ getD bs at 0 =
-    elim (c .if-at-bytes .came) [ then-at-bytes w ↦ w .count-is | else-at-bytes w ↦ w .count-is ∙ sym (getD-past bs at 0 (w .if-at-bytes .left)) ] in
+    elim (c .if-at-bytes .came) [ then-at-bytes w ↦ w .count-is ∙ sym (getD-past bs at 0 (w .if-at-bytes .taken)) | else-at-bytes w ↦ w .count-is ] in
     let small : getD bs at 0 ≤ 255 = search needs in
     let next = start-more bs (c .loop-i .i) in
     let here : next-start bs at ≡ next-start bs (start bs (c .loop-i .i)) = ap (next-start bs) (c .loop-i .inv .0) in
