@@ -13,7 +13,7 @@ use Rattle.std.specs.declared.option.Option.{Option}
 use Rattle.std.specs.declared.option.Option.the-variants.{Some, None}
 use Rattle.lists.specs.declared.refusals.Refusal.{Refusal}
 use Rattle.lists.specs.Promise.{Distinct, Proper}
-use Rattle.lists.specs.Format.{number-at, numbers, list-bytes, next-start, start, lists-from, lists-of, may-list, stands-fault, list-fault, or-else, lists-fault, fault, Encodable}
+use Rattle.lists.specs.Format.{number-at, numbers, list-bytes, next-start, start, lists-from, lists-of, may-list, stands-fault, list-fault, or-else, lists-fault, fault, Begins, Encodable}
 use Rattle.lists.proofs.Positions.{numbers-from, count-of-numbers, numbers-are, count-of-lists, list-is}
 
 -- the stands ts may all be listed by trader own, one after the other, after the stands `before`
@@ -220,3 +220,11 @@ module _ (bs : List ℕ) (accepted : fault bs ≡ None) where
         short = λ i h. let below : i < number-at bs 0 = omega arith in rw (list-is bs i below, list-length i below) (short-list i below);
         proper = accepted-proper;
       }
+
+-- the part where the list of a trader begins: it lies within the bytes, and it is that list
+module _ (bs : List ℕ) (i p : ℕ) (begins : Begins bs i p) where
+  pub begins-within : next-start bs p ≤ length bs
+  begins-within = rw (begins .2) (list-within bs (begins .0) i (begins .1))
+
+  pub begins-list : numbers (list-bytes bs p) ≡ getD (lists-of bs) i []
+  begins-list = rw (begins .2) (sym (list-is bs i (begins .1)))
