@@ -1,19 +1,19 @@
 -- What holds of the bytes of a year that have no fault.
-use mathlib.Core.Path.{_≡_, refl, sym, _∙_, ap}
+use mathlib.Core.Path.{_≡_, refl, sym, ap}
 use mathlib.Core.Bool.{Bool, true, false, cond, _&&_}
 use mathlib.Core.List.{List, [], _∷_}
 use mathlib.Core.Logic.{inl, inr}
 use Prim.Native.Nat.{ℕ, zero, suc, _+_, _*_, _≤_, _<_}
 use native.Mathlib.Omega.{arith}
-use lib.Dec.{eqb, ltb}
-use lib.ListN.{length, getD, take, drop}
+use lib.Dec.{ltb}
+use lib.ListN.{length, getD}
 use Rattle.std.proofs.shelf.Lists.{getD-default}
 use Rattle.std.proofs.shelf.Tests.{and-parts, and-from, le-ltb, lt-ltb, ltb-true, ltb-false, cases-lt}
 use Rattle.std.specs.declared.option.Option.{Option}
 use Rattle.std.specs.declared.option.Option.the-variants.{Some, None}
 use Rattle.lists.specs.declared.refusals.Refusal.{Refusal}
 use Rattle.lists.specs.Promise.{Distinct, Proper}
-use Rattle.lists.specs.Format.{number-at, numbers, list-bytes, next-start, start, lists-from, lists-of, may-list, stands-fault, list-fault, or-else, lists-fault, fault, Begins, Encodable}
+use Rattle.lists.specs.Format.{number-at, numbers, list-bytes, next-start, start, lists-of, may-list, stands-fault, list-fault, or-else, lists-fault, fault, Begins, Encodable}
 use Rattle.lists.proofs.Positions.{numbers-from, count-of-numbers, numbers-are, count-of-lists, list-is}
 
 -- the stands ts may all be listed by trader own, one after the other, after the stands `before`

@@ -1,21 +1,19 @@
 -- What is written is read again, and what is read is written again.
-use mathlib.Core.Path.{_≡_, refl, sym, _∙_, ap}
-use mathlib.Core.Bool.{Bool, true, false, cond, _&&_}
+use mathlib.Core.Path.{_≡_, refl, sym, _∙_}
+use mathlib.Core.Bool.{true}
 use mathlib.Core.List.{List, [], _∷_, _++_}
-use Prim.Native.Nat.{ℕ, zero, suc, _+_, _*_, _-_, _/_, _%_, _≤_, _<_}
-use native.Mathlib.Nat.{mod-add-div, mod-lt, mod-eq-of-lt, div-eq-of-lt, add-mul-mod-self-left, add-mul-div-left}
+use Prim.Native.Nat.{ℕ, zero, suc, _+_, _*_, _/_, _%_, _≤_, _<_}
+use native.Mathlib.Nat.{mod-add-div, mod-eq-of-lt, add-mul-mod-self-left}
 use native.Mathlib.Omega.{arith}
-use lib.Dec.{eqb, ltb}
 use lib.ListN.{length, getD, take, drop}
-use Rattle.std.proofs.shelf.Lists.{append-assoc, length-append, length-drop, getD-default, getD-drop, drop-drop, drop-more, drop-all, take-at, drop-at, take-append-drop}
+use Rattle.std.proofs.shelf.Lists.{length-append, length-drop, getD-default, getD-drop, drop-drop, drop-more, drop-all, take-at, drop-at, take-append-drop}
 use Rattle.std.proofs.shelf.Tests.{and-from, le-ltb, lt-ltb}
-use Rattle.std.specs.declared.option.Option.{Option}
-use Rattle.std.specs.declared.option.Option.the-variants.{Some, None}
+use Rattle.std.specs.declared.option.Option.the-variants.{None}
 use Rattle.lists.specs.Promise.{Distinct, Proper}
 use Rattle.lists.specs.Trade.{Lists}
-use Rattle.lists.specs.Format.{number-at, numbers, list-bytes, next-start, start, lists-from, lists-of, may-list, list-fault, or-else, lists-fault, fault, Encodable, bytes-of, encode-stands, encode-lists, encode, Reads-what-was-written, Writes-what-was-read}
+use Rattle.lists.specs.Format.{number-at, numbers, list-bytes, next-start, lists-from, lists-of, may-list, list-fault, lists-fault, fault, Encodable, bytes-of, encode-stands, encode-lists, encode, Reads-what-was-written, Writes-what-was-read}
 use Rattle.lists.proofs.Faults.{listable}
-use Rattle.lists.proofs.Positions.{numbers-from, count-of-numbers, two-bytes, numbers-are, count-of-lists, count-from}
+use Rattle.lists.proofs.Positions.{numbers-from, two-bytes, numbers-are, count-of-lists}
 use Rattle.lists.proofs.Accepted.{all-may, may-more, Good, good-list, list-good, good-numbers, good-length, good-end, no-fault-both, two-there, lists-good, accepted-encodable}
 
 -- a number's two bytes give the number, and two bytes are the bytes of their number
@@ -172,3 +170,54 @@ writes-what-was-read bs bytes accepted =
     let rest = lists-written bs bytes (number-at bs 0) 0 (number-at bs 0) 2 (lists-good bs accepted) in
     let whole : bs ≡ getD bs 0 0 ∷ getD bs 1 0 ∷ drop 2 bs = two-bytes bs 0 two in
     (accepted-encodable bs accepted, cc (n, number, rest, whole))
+
+-- What is written of encodable lists are bytes.
+abbrev pub Bytes : List ℕ → Type 0
+Bytes xs = (k : ℕ) → getD xs k 0 < 256
+
+bytes-more : (x : ℕ) (xs : List ℕ) → x < 256 → Bytes xs → Bytes (x ∷ xs)
+bytes-more x xs h all zero = h
+bytes-more x xs h all (suc k) = all k
+
+bytes-none : Bytes []
+bytes-none k = omega arith
+
+bytes-both : (xs ys : List ℕ) → Bytes xs → Bytes ys → Bytes (xs ++ ys)
+bytes-both [] ys left right = right
+bytes-both (x ∷ xs) ys left right = bytes-more x (xs ++ ys) (left 0) (bytes-both xs ys (λ k. left (suc k)) right)
+
+bytes-of-one : (x : ℕ) (xs : List ℕ) → x < 65536 → Bytes xs → Bytes (bytes-of x ++ xs)
+bytes-of-one x xs h all =
+    bytes-more (x % 256) (x / 256 ∷ xs) (omega arith) (bytes-more (x / 256) xs (omega arith) all)
+
+stands-bytes : (ts : List ℕ) → ((j : ℕ) → j < length ts → getD ts j 0 < 65536) → Bytes (encode-stands ts)
+unfolding encode-stands
+stands-bytes [] small = bytes-none
+stands-bytes (t ∷ ts) small =
+    bytes-of-one t (encode-stands ts) (small 0 (omega arith)) (stands-bytes ts (λ j h. small (suc j) (omega arith)))
+
+lists-bytes : (ls : Lists) →
+    ((i : ℕ) → i < length ls → (length (getD ls i []) ≤ 40) × ((j : ℕ) → j < length (getD ls i []) → getD (getD ls i []) j 0 < 65536)) →
+    Bytes (encode-lists ls)
+unfolding encode-lists
+lists-bytes [] small = bytes-none
+lists-bytes (l ∷ ls) small =
+    let first = small 0 (omega arith) in
+    let stands = stands-bytes l (first .1) in
+    let rest = lists-bytes ls (λ i h. small (suc i) (omega arith)) in
+    bytes-more (length l) (encode-stands l ++ encode-lists ls) (omega (arith, first .0)) (bytes-both (encode-stands l) (encode-lists ls) stands rest)
+
+pub writes-bytes : (ls : Lists) → Encodable ls → (k : ℕ) → getD (encode ls) k 0 < 256
+unfolding encode Proper Distinct
+writes-bytes ls can =
+    bytes-of-one (length ls) (encode-lists ls) (omega (arith, can .most))
+    (
+    lists-bytes ls
+    (
+    λ i h. (
+      can .short i h,
+      λ j hj. let below = can .proper i h .0 .1 j hj in
+          rw (getD-default (getD ls i []) j 0 (length ls) hj) (omega (arith, below, can .most)),
+    )
+    )
+    )

@@ -5,7 +5,7 @@ use Prim.Native.Nat.{ℕ, zero, suc, _+_, _*_, _≤_, _<_}
 use native.Mathlib.Numerals.{add-one}
 use native.Mathlib.Omega.{arith}
 use lib.ListN.{length, getD, take, drop}
-use Rattle.std.proofs.shelf.Lists.{drop-more, take-all}
+use Rattle.std.proofs.shelf.Lists.{drop-more, take-all, length-drop, length-take-le}
 use Rattle.lists.specs.Format.{start, next-start, number-at, numbers, list-bytes, lists-from, lists-of}
 
 pub start-more : (bs : List ℕ) (i : ℕ) → start bs (i + 1) ≡ next-start bs (start bs i)
@@ -44,15 +44,20 @@ numbers-are bs (suc k) p h =
     let ih = numbers-are bs k (p + 2) (omega arith) in
     rw (two, two-bytes bs p (omega arith), ih)
 
-module _ (xs : List ℕ) (k : ℕ) (even : length xs ≡ 2 * k) where
-  pub numbers-whole : numbers xs ≡ numbers-from xs k 0
-  numbers-whole = ap numbers (sym (take-all (2 * k) xs (omega arith))) ∙ numbers-are xs k 0 (omega arith)
+numbers-whole : (xs : List ℕ) (k : ℕ) → length xs ≡ 2 * k → numbers xs ≡ numbers-from xs k 0
+numbers-whole xs k even = ap numbers (sym (take-all (2 * k) xs (omega arith))) ∙ numbers-are xs k 0 (omega arith)
 
-  pub numbers-length : length (numbers xs) ≡ k
-  numbers-length = rw numbers-whole (count-of-numbers xs k 0)
+pub numbers-length : (xs : List ℕ) (k : ℕ) → length xs ≡ 2 * k → length (numbers xs) ≡ k
+numbers-length xs k even = rw (numbers-whole xs k even) (count-of-numbers xs k 0)
 
-  pub numbers-at : (j : ℕ) → j < k → getD (numbers xs) j 0 ≡ number-at xs (2 * j)
-  numbers-at j h = rw numbers-whole (number-is xs k 0 j (2 * j) (omega arith) h)
+pub numbers-at : (xs : List ℕ) (k j : ℕ) → length xs ≡ 2 * k → j < k → getD (numbers xs) j 0 ≡ number-at xs (2 * j)
+numbers-at xs k j even h = rw (numbers-whole xs k even) (number-is xs k 0 j (2 * j) (omega arith) h)
+
+-- the part that holds the stands of a list
+pub length-of-part : (bs : List ℕ) (p : ℕ) → next-start bs p ≤ length bs → length (list-bytes bs p) ≡ 2 * getD bs p 0
+length-of-part bs p h =
+    let left = length-drop (p + 1) bs in
+    length-take-le (2 * getD bs p 0) (drop (p + 1) bs) (omega arith)
 
 -- the lists, one for each trader
 pub count-from : (bs : List ℕ) (k p : ℕ) → length (lists-from bs k p) ≡ k

@@ -1,6 +1,6 @@
-use Prim.Native.Nat.{_+_, _*_, _-_, _≤_, _<_}
+use Prim.Native.Nat.{_+_, _*_, _-_, _<_}
 use native.Mathlib.Omega.{arith}
-use mathlib.Core.Path.{_≡_, refl, ap, _∙_}
+use mathlib.Core.Path.{_≡_, ap, _∙_}
 use lib.ListN.{length, getD, take, drop}
 use Rattle.lists.specs.Format.{next-start, list-bytes, numbers}
 use Rattle.lists.proofs.Accepted.{begins-within, begins-list}
