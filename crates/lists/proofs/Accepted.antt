@@ -13,7 +13,8 @@ use Rattle.std.specs.declared.option.Option.{Option}
 use Rattle.std.specs.declared.option.Option.the-variants.{Some, None}
 use Rattle.lists.specs.declared.refusals.Refusal.{Refusal}
 use Rattle.lists.specs.Promise.{Distinct, Proper}
-use Rattle.lists.specs.Format.{number-at, numbers, list-bytes, next-start, start, lists-of, may-list, stands-fault, list-fault, or-else, lists-fault, fault, Begins, Encodable}
+use Rattle.lists.proofs.Faults.{may-list}
+use Rattle.lists.specs.Format.{number-at, numbers, list-bytes, next-start, start, lists-of, stands-fault, count-fault, list-fault, or-else, lists-fault, fault, Begins, Encodable}
 use Rattle.lists.proofs.Positions.{numbers-from, count-of-numbers, numbers-are, count-of-lists, list-is}
 
 -- the stands ts may all be listed by trader own, one after the other, after the stands `before`
@@ -88,10 +89,11 @@ pub good-stands : (bs : List ℕ) (n own : ℕ) (before : List ℕ) (k p : ℕ) 
 unfolding stands-fault
 good-stands bs n own before zero p h e = (omega arith, refl)
 good-stands bs n own before (suc k) p h e =
-    let there = no-fault-left _ _ _ e in
+    let both = no-fault-both _ _ e in
+    let there = no-fault-left _ _ _ (both .0) in
     let fine = no-fault-right _ _ _ (there .1) in
     let enough = ltb-false _ _ (there .0) in
-    let rest = good-stands bs n own (number-at bs p ∷ before) k (p + 2) enough (fine .1) in
+    let rest = good-stands bs n own (number-at bs p ∷ before) k (p + 2) enough (both .1) in
     (omega arith, and-from _ _ (fine .0) (rest .1))
 
 pub stands-good : (bs : List ℕ) (n own : ℕ) (before : List ℕ) (k p : ℕ) → p + 2 * k ≤ length bs →
@@ -115,9 +117,10 @@ pub record Good (bs : List ℕ) (n own p : ℕ) : Type 0 where
 pub good-list : (bs : List ℕ) (n own p : ℕ) → list-fault bs n own p ≡ None → Good bs n own p
 unfolding list-fault
 good-list bs n own p e =
-    let there = no-fault-right _ _ _ e in
+    let both = no-fault-both _ _ e in
+    let there = no-fault-right _ _ _ (both .0) in
     let few = no-fault-left _ _ _ (there .1) in
-    let stands = good-stands bs n own [] (getD bs p 0) (p + 1) (one-more _ _ (there .0)) (few .1) in
+    let stands = good-stands bs n own [] (getD bs p 0) (p + 1) (one-more _ _ (there .0)) (both .1) in
     record { short = ltb-false _ _ (few .0); within = stands .0; may = stands .1 }
 
 pub list-good : (bs : List ℕ) (n own p : ℕ) → Good bs n own p → list-fault bs n own p ≡ None
@@ -141,7 +144,7 @@ good-end bs n own p e = ltb-false _ _ (no-fault-left _ _ _ e .0)
 
 pub good-lists : (bs : List ℕ) (n own k p : ℕ) → p ≡ start bs own → p ≤ length bs → lists-fault bs n own k p ≡ None →
     ((i : ℕ) → own ≤ i → i < own + k → Good bs n i (start bs i)) × ((m : ℕ) → m ≡ own + k → start bs m ≡ length bs)
-unfolding lists-fault start
+unfolding lists-fault
 good-lists bs n own zero p at h e =
     let end = good-end bs n own p e in (
       λ i low high. absurd (omega arith),
@@ -158,33 +161,31 @@ good-lists bs n own (suc k) p at h e =
       λ m is. rest .1 m (omega arith),
     )
 
+few-traders : (bs : List ℕ) → count-fault bs ≡ None → (0 < number-at bs 0) × (number-at bs 0 ≤ 4000)
+few-traders bs e =
+    let fine : (ltb 0 (number-at bs 0) && ltb (number-at bs 0) 4001) ≡ true = no-fault-right _ _ _ (no-fault-left _ _ _ e .1) .0 in
+    let low : 0 < number-at bs 0 = ltb-true _ _ (and-parts _ _ fine .0) in
+    let high : number-at bs 0 < 4001 = ltb-true _ _ (and-parts _ _ fine .1) in
+    (low, omega arith)
+
 -- Bytes that are accepted.
 module _ (bs : List ℕ) (accepted : fault bs ≡ None) where
-  pub two-there : 2 ≤ length bs
-  unfolding fault
-  two-there = ltb-false _ _ (no-fault-left _ _ _ accepted .0)
+  both-good : (count-fault bs ≡ None) × (lists-fault bs (number-at bs 0) 0 (number-at bs 0) 2 ≡ None)
+  both-good = no-fault-both (count-fault bs) (lists-fault bs (number-at bs 0) 0 (number-at bs 0) 2) accepted
 
-  count-good : ((ltb 0 (number-at bs 0) && ltb (number-at bs 0) 4001) ≡ true)
-      × (lists-fault bs (number-at bs 0) 0 (number-at bs 0) 2 ≡ None)
-  unfolding fault
-  count-good = no-fault-right _ _ _ (no-fault-left _ _ _ accepted .1)
+  pub two-there : 2 ≤ length bs
+  two-there = ltb-false _ _ (no-fault-left _ _ _ (both-good .0) .0)
 
   pub some-traders : (0 < number-at bs 0) × (number-at bs 0 ≤ 4000)
-  some-traders =
-      let parts = and-parts _ _ (count-good .0) in
-      let low = ltb-true _ _ (parts .0) in
-      let high = ltb-true _ _ (parts .1) in
-      (low, omega arith)
+  some-traders = few-traders bs (both-good .0)
 
   pub lists-good : lists-fault bs (number-at bs 0) 0 (number-at bs 0) 2 ≡ None
-  lists-good = count-good .1
+  lists-good = both-good .1
 
   pub list-good-at : (i : ℕ) → i < number-at bs 0 → Good bs (number-at bs 0) i (start bs i)
-  unfolding start
   list-good-at i h = good-lists bs (number-at bs 0) 0 (number-at bs 0) 2 refl two-there lists-good .0 i (omega arith) (omega arith)
 
   pub ends-exactly : start bs (number-at bs 0) ≡ length bs
-  unfolding start
   ends-exactly = good-lists bs (number-at bs 0) 0 (number-at bs 0) 2 refl two-there lists-good .1 (number-at bs 0) (omega arith)
 
   pub list-within : (i : ℕ) → i < number-at bs 0 → next-start bs (start bs i) ≤ length bs

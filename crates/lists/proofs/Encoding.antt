@@ -11,7 +11,8 @@ use Rattle.std.proofs.shelf.Tests.{and-from, le-ltb, lt-ltb}
 use Rattle.std.specs.declared.option.Option.the-variants.{None}
 use Rattle.lists.specs.Promise.{Distinct, Proper}
 use Rattle.lists.specs.Trade.{Lists}
-use Rattle.lists.specs.Format.{number-at, numbers, list-bytes, next-start, lists-from, lists-of, may-list, list-fault, lists-fault, fault, Encodable, bytes-of, encode-stands, encode-lists, encode, Reads-what-was-written, Writes-what-was-read}
+use Rattle.lists.proofs.Faults.{may-list}
+use Rattle.lists.specs.Format.{number-at, numbers, list-bytes, next-start, lists-from, lists-of, list-fault, lists-fault, fault, Encodable, bytes-of, encode-stands, encode-lists, encode, Reads-what-was-written, Writes-what-was-read}
 use Rattle.lists.proofs.Faults.{listable}
 use Rattle.lists.proofs.Positions.{numbers-from, two-bytes, numbers-are, count-of-lists}
 use Rattle.lists.proofs.Accepted.{all-may, may-more, Good, good-list, list-good, good-numbers, good-length, good-end, no-fault-both, two-there, lists-good, accepted-encodable}
@@ -124,17 +125,6 @@ proper-may ls proper i h =
     )
     (proper i h .0 .0)
 
-pub reads-what-was-written : Reads-what-was-written
-unfolding encode fault lists-of
-reads-what-was-written ls can =
-    let n = number-of-bytes (length ls) in
-    let two = le-ltb (length (encode ls)) 2 (omega arith) in
-    let some = lt-ltb 0 (length ls) (can .somebody) in
-    let most = lt-ltb (length ls) 4001 (omega (arith, can .most)) in
-    let accepted = lists-accepted (encode ls) (length ls) ls 0 2 refl
-    (λ i j is h. let same : j ≡ i = omega arith in rw same (can .short i h, proper-may ls (can .proper) i h)) in
-    (rw (two, n, some, most) accepted, rw n (lists-again (encode ls) ls 2 refl))
-
 -- what is read of bytes, written again
 module _ (bs : List ℕ) (bytes : (k : ℕ) → k < length bs → getD bs k 0 < 256) where
   pub stands-written : (k p : ℕ) → p + 2 * k ≤ length bs → encode-stands (numbers-from bs k p) ≡ take (2 * k) (drop p bs)
@@ -221,3 +211,14 @@ writes-bytes ls can =
     )
     )
     )
+
+pub reads-what-was-written : Reads-what-was-written
+unfolding encode lists-of
+reads-what-was-written ls can =
+    let n = number-of-bytes (length ls) in
+    let two = le-ltb (length (encode ls)) 2 (omega arith) in
+    let some = lt-ltb 0 (length ls) (can .somebody) in
+    let most = lt-ltb (length ls) 4001 (omega (arith, can .most)) in
+    let accepted = lists-accepted (encode ls) (length ls) ls 0 2 refl
+    (λ i j is h. let same : j ≡ i = omega arith in rw same (can .short i h, proper-may ls (can .proper) i h)) in
+    (rw (two, n, some, most) accepted, rw n (lists-again (encode ls) ls 2 refl), writes-bytes ls can)

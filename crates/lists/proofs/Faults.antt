@@ -15,63 +15,41 @@ use Rattle.std.specs.declared.option.Option.{Option}
 use Rattle.std.specs.declared.option.Option.the-variants.{Some, None}
 use Rattle.lists.specs.declared.refusals.Refusal.{Refusal}
 use Rattle.lists.specs.declared.refusals.Refusal.the-variants.{WrongLength, WrongCount, LongList, WrongStand}
-use Rattle.lists.specs.Format.{number-at, next-start, member, may-list, stands-fault, list-fault, or-else, lists-fault, fault, unless}
+use Rattle.lists.specs.Format.{number-at, next-start, member, count-fault, length-fault, end-fault, stand-fault, stands-fault, list-fault, or-else, lists-fault, fault, unless}
 
--- a two-byte number that is not there, and one that is
-pub no-number : (b : Bool) (x : ℕ) → _≡_ {A = Option ℕ} None (cond b None (Some x)) → b ≡ true
-no-number true x e = refl
-no-number false x e = absurd (let z : _≡_ {A = ℕ} 0 1 = cc in omega arith)
-
-pub a-number : (b : Bool) (x y : ℕ) → _≡_ {A = Option ℕ} (Some y) (cond b None (Some x)) → (b ≡ false) × (y ≡ x)
-a-number true x y e = absurd (let z : _≡_ {A = ℕ} 0 1 = cc in omega arith)
-a-number false x y e = (refl, cc)
-
--- one stand of a list
-pub stands-step : (bs : List ℕ) (n own : ℕ) (before : List ℕ) (left p : ℕ) → 0 < left →
-    stands-fault bs n own before left p
-    ≡ cond (ltb (length bs) (p + 2)) (Some (WrongLength (length bs)))
-    (cond (may-list n own before (number-at bs p)) (stands-fault bs n own (number-at bs p ∷ before) (left - 1) (p + 2))
-    (Some (WrongStand p)))
-unfolding stands-fault
-stands-step bs n own before zero p h = absurd (omega arith)
-stands-step bs n own before (suc k) p h = let e : suc k - 1 ≡ k = omega arith in rw e
+-- stand t may be listed by trader own after the stands `before`
+abbrev pub may-list : ℕ → ℕ → List ℕ → ℕ → Bool
+may-list n own before t = ltb t n && (not (eqb t own) && not (member t before))
 
 pub stands-none : (bs : List ℕ) (n own : ℕ) (before : List ℕ) (left p : ℕ) (whole : Option Refusal) →
     stands-fault bs n own before left p ≡ whole → left ≡ 0 → whole ≡ None
 unfolding stands-fault
 stands-none bs n own before left p whole so-far h = sym so-far ∙ rw h
 
+-- one stand of a list, of which `again` says whether it was named before
 module _ (bs : List ℕ) (n own : ℕ) (before : List ℕ) (left p : ℕ) (whole : Option Refusal)
-    (so-far : stands-fault bs n own before left p ≡ whole) (more : 0 < left) where
-  pub stands-end : ltb (length bs) (p + 2) ≡ true → whole ≡ Some (WrongLength (length bs))
-  stands-end e = sym so-far ∙ (stands-step bs n own before left p more ∙ rw e)
+    (so-far : stands-fault bs n own before left p ≡ whole) (again : Bool) (is : again ≡ member (number-at bs p) before) where
+  pub stands-wrong : (f : Refusal) → 0 < left → stand-fault bs n own p again ≡ Some f → whole ≡ Some f
+  unfolding stands-fault
+  stands-wrong f more e = sym so-far ∙ step left more
+    where
+      step : (k : ℕ) → 0 < k → stands-fault bs n own before k p ≡ Some f
+      step zero h = absurd (omega arith)
+      step (suc k) h =
+          let e′ : stand-fault bs n own p (member (number-at bs p) before) ≡ Some f = rw is at e in
+          ap (λ o. or-else o (stands-fault bs n own (number-at bs p ∷ before) k (p + 2))) e′
 
-  pub stands-wrong : (t : ℕ) → t ≡ number-at bs p → ltb (length bs) (p + 2) ≡ false → may-list n own before t ≡ false →
-      whole ≡ Some (WrongStand p)
-  stands-wrong t is e w =
-      let w′ : may-list n own before (number-at bs p) ≡ false = rw is at w in
-      sym so-far ∙ (stands-step bs n own before left p more ∙ rw (e, w′))
+  pub stands-next : (t rest : ℕ) → t ≡ number-at bs p → left ≡ rest + 1 → stand-fault bs n own p again ≡ None →
+      stands-fault bs n own (t ∷ before) rest (p + 2) ≡ whole
+  unfolding stands-fault
+  stands-next t rest at one e =
+      let l : left ≡ suc rest = omega arith in
+      let whole-is : stands-fault bs n own before (suc rest) p ≡ whole = rw l at so-far in
+      let e′ : stand-fault bs n own p (member (number-at bs p) before) ≡ None = rw is at e in
+      rw at (sym (ap (λ o. or-else o (stands-fault bs n own (number-at bs p ∷ before) rest (p + 2))) e′) ∙ whole-is)
 
-  pub stands-next : (t rest : ℕ) → t ≡ number-at bs p → left ≡ rest + 1 → ltb (length bs) (p + 2) ≡ false →
-      may-list n own before t ≡ true → stands-fault bs n own (t ∷ before) rest (p + 2) ≡ whole
-  stands-next t rest is one e w =
-      let w′ : may-list n own before (number-at bs p) ≡ true = rw is at w in
-      let r : left - 1 ≡ rest = omega arith in
-      let now : stands-fault bs n own (number-at bs p ∷ before) (left - 1) (p + 2) ≡ whole =
-      sym (sym so-far ∙ (stands-step bs n own before left p more ∙ rw (e, w′))) in
-      rw (is, ← r) now
-
--- a stand that may not be listed, and one that may
+-- a stand that may be listed
 module _ (n own t : ℕ) (before : List ℕ) where
-  pub no-such-stand : n ≤ t → may-list n own before t ≡ false
-  no-such-stand h = grind arith
-
-  pub own-stand : t ≡ own → may-list n own before t ≡ false
-  own-stand h = grind arith
-
-  pub listed-before : member t before ≡ true → may-list n own before t ≡ false
-  listed-before h = grind arith
-
   pub listable : t < n → (t ≡ own → ⊥) → member t before ≡ false → may-list n own before t ≡ true
   listable h o m = grind arith
 
@@ -112,13 +90,23 @@ module _ (bs : List ℕ) (n own left p : ℕ) (whole : Option Refusal) (so-far :
       let whole-is : lists-fault bs n own (suc rest) p ≡ whole = rw l at so-far in
       rw (up, at) (sym (rw e) ∙ whole-is)
 
-  pub lists-go-on : left ≡ 0 → p < length bs → whole ≡ Some (WrongLength p)
+  pub lists-done : left ≡ 0 → whole ≡ end-fault bs p
   unfolding lists-fault
-  lists-go-on h more = let t = lt-ltb p (length bs) more in sym so-far ∙ rw (h, t)
+  lists-done h = sym so-far ∙ rw h
 
-  pub lists-done : left ≡ 0 → length bs ≤ p → whole ≡ None
-  unfolding lists-fault
-  lists-done h end = let t = le-ltb p (length bs) end in sym so-far ∙ rw (h, t)
+-- one list: its count, and then its stands
+module _ (bs : List ℕ) (n own p : ℕ) where
+  pub long-wrong : (f : Refusal) → length-fault bs p ≡ Some f → list-fault bs n own p ≡ Some f
+  unfolding list-fault
+  long-wrong f e = ap (λ o. or-else o (stands-fault bs n own [] (getD bs p 0) (p + 1))) e
+
+  pub list-right : (o : Option Refusal) → length-fault bs p ≡ None → stands-fault bs n own [] (getD bs p 0) (p + 1) ≡ o → list-fault bs n own p ≡ o
+  unfolding list-fault
+  list-right o e stands = ap (λ q. or-else q (stands-fault bs n own [] (getD bs p 0) (p + 1))) e ∙ stands
+
+  -- a stand without a fault exists
+  pub stand-below : (again : Bool) → stand-fault bs n own p again ≡ None → number-at bs p < n
+  stand-below again e = grind arith
 
 -- what a call that is refused, or hands on a value, says of the fault
 pub refused-fault : {A : Type 0} (o : Option Refusal) (a : A) (f : Refusal) → _≡_ {A = Result A Refusal} (Err f) (unless o a) → o ≡ Some f
@@ -135,19 +123,9 @@ no-marks zero t = omega arith
 no-marks (suc n) zero = omega arith
 no-marks (suc n) (suc t) = no-marks n t
 
--- all lists, once the number of traders is read
-pub faults-of-lists : (bs : List ℕ) (n : ℕ) → ltb (length bs) 2 ≡ false → n ≡ number-at bs 0 → (n ≡ 0 → ⊥) → n ≤ 4000 →
-    fault bs ≡ lists-fault bs n 0 n 2
-unfolding fault
-faults-of-lists bs n two is some most =
-    let a : ltb 0 (number-at bs 0) ≡ true = rw is at (lt-ltb 0 n (omega arith)) in
-    let b : ltb (number-at bs 0) 4001 ≡ true = rw is at (lt-ltb n 4001 (omega arith)) in
-    rw (two, a, b, ← is)
+-- all bytes: the count, and then the lists
+pub count-wrong : (bs : List ℕ) (f : Refusal) → count-fault bs ≡ Some f → fault bs ≡ Some f
+count-wrong bs f e = ap (λ o. or-else o (lists-fault bs (number-at bs 0) 0 (number-at bs 0) 2)) e
 
-pub wrong-count : (bs : List ℕ) (n : ℕ) → ltb (length bs) 2 ≡ false → n ≡ number-at bs 0 → (n ≡ 0) ⊎ ((n ≡ 0 → ⊥) × (4000 < n)) →
-    fault bs ≡ Some WrongCount
-unfolding fault
-wrong-count bs n two is bad =
-    let none : (ltb 0 n && ltb n 4001) ≡ false = elim bad [ inl z ↦ grind arith | inr m ↦ let many = m .1 in grind arith ] in
-    let none′ : (ltb 0 (number-at bs 0) && ltb (number-at bs 0) 4001) ≡ false = rw is at none in
-    rw (two, none′)
+pub count-right : (bs : List ℕ) → count-fault bs ≡ None → fault bs ≡ lists-fault bs (number-at bs 0) 0 (number-at bs 0) 2
+count-right bs e = ap (λ o. or-else o (lists-fault bs (number-at bs 0) 0 (number-at bs 0) 2)) e

@@ -9,7 +9,6 @@ use Rattle.std.proofs.shelf.Lists.{drop-more, take-all, length-drop, length-tak
 use Rattle.lists.specs.Format.{start, next-start, number-at, numbers, list-bytes, lists-from, lists-of}
 
 pub start-more : (bs : List ℕ) (i : ℕ) → start bs (i + 1) ≡ next-start bs (start bs i)
-unfolding start
 start-more bs i = rw (add-one i)
 
 -- k two-byte numbers, the first of which begins at p
@@ -71,12 +70,12 @@ count-of-lists bs = count-from bs (number-at bs 0) 2
 
 pub list-is-from : (bs : List ℕ) (k i p j m : ℕ) → p ≡ start bs i → m ≡ i + j → j < k →
     getD (lists-from bs k p) j [] ≡ numbers (list-bytes bs (start bs m))
-unfolding lists-from start
+unfolding lists-from
 list-is-from bs zero i p j m at is h = absurd (omega arith)
 list-is-from bs (suc k) i p zero m at is h = let same : m ≡ i = omega arith in rw (same, at)
 list-is-from bs (suc k) i p (suc j) m at is h =
     list-is-from bs k (suc i) (next-start bs p) j m (ap (next-start bs) at) (omega arith) (omega arith)
 
 pub list-is : (bs : List ℕ) (i : ℕ) → i < number-at bs 0 → getD (lists-of bs) i [] ≡ numbers (list-bytes bs (start bs i))
-unfolding lists-of start
+unfolding lists-of
 list-is bs i h = list-is-from bs (number-at bs 0) 0 2 i i refl (omega arith) h

@@ -34,7 +34,7 @@ abbrev pub next-start : List ℕ → ℕ → ℕ
 next-start bs p = p + 1 + 2 * getD bs p 0
 
 -- where the list of trader i begins: its count's byte
-unfoldable pub start : List ℕ → ℕ → ℕ
+abbrev pub start : List ℕ → ℕ → ℕ
 start bs zero = 2
 start bs (suc i) = next-start bs (start bs i)
 
@@ -51,42 +51,52 @@ abbrev pub member : ℕ → List ℕ → Bool
 member t [] = false
 member t (u ∷ us) = eqb u t || member t us
 
--- stand t may be listed by trader own after the stands `before`: it exists, is not the own one, and is not listed yet
-abbrev pub may-list : ℕ → ℕ → List ℕ → ℕ → Bool
-may-list n own before t = ltb t n && (not (eqb t own) && not (member t before))
+-- the earlier of two faults, where both are looked for
+abbrev pub or-else : Option Refusal → Option Refusal → Option Refusal
+or-else (Some f) later = Some f
+or-else None later = later
+
+-- the fault of the number of traders
+abbrev pub count-fault : List ℕ → Option Refusal
+count-fault bs =
+    cond (ltb (length bs) 2) (Some (WrongLength (length bs)))
+    (cond (ltb 0 (number-at bs 0) && ltb (number-at bs 0) 4001) None (Some WrongCount))
+
+-- the fault of the count of the list that begins at p
+abbrev pub length-fault : List ℕ → ℕ → Option Refusal
+length-fault bs p =
+    cond (ltb p (length bs)) (cond (ltb 40 (getD bs p 0)) (Some (LongList p)) None) (Some (WrongLength (length bs)))
+
+-- the fault of the stand at byte p of trader own's list: it exists, is not the own one, and is not named `again`
+abbrev pub stand-fault : List ℕ → ℕ → ℕ → ℕ → Bool → Option Refusal
+stand-fault bs n own p again =
+    cond (ltb (length bs) (p + 2)) (Some (WrongLength (length bs)))
+    (cond (ltb (number-at bs p) n && (not (eqb (number-at bs p) own) && not again)) None (Some (WrongStand p)))
 
 -- the first fault in k stands of trader own's list, from byte p on; `before` are the stands listed already, the last first
 unfoldable pub stands-fault : List ℕ → ℕ → ℕ → List ℕ → ℕ → ℕ → Option Refusal
 stands-fault bs n own before zero p = None
 stands-fault bs n own before (suc k) p =
-    cond (ltb (length bs) (p + 2)) (Some (WrongLength (length bs)))
-    (cond (may-list n own before (number-at bs p)) (stands-fault bs n own (number-at bs p ∷ before) k (p + 2))
-    (Some (WrongStand p)))
+    or-else (stand-fault bs n own p (member (number-at bs p) before)) (stands-fault bs n own (number-at bs p ∷ before) k (p + 2))
 
 -- the first fault in the list that begins at p
 unfoldable pub list-fault : List ℕ → ℕ → ℕ → ℕ → Option Refusal
-list-fault bs n own p =
-    cond (ltb p (length bs))
-    (cond (ltb 40 (getD bs p 0)) (Some (LongList p)) (stands-fault bs n own [] (getD bs p 0) (p + 1)))
-    (Some (WrongLength (length bs)))
+list-fault bs n own p = or-else (length-fault bs p) (stands-fault bs n own [] (getD bs p 0) (p + 1))
 
-abbrev pub or-else : Option Refusal → Option Refusal → Option Refusal
-or-else (Some f) later = Some f
-or-else None later = later
+-- nothing may follow the lists
+abbrev pub end-fault : List ℕ → ℕ → Option Refusal
+end-fault bs p = cond (ltb p (length bs)) (Some (WrongLength p)) None
 
--- the first fault in k lists from p on, and then in what follows them: nothing may
+-- the first fault in k lists from p on, and then in what follows them
 unfoldable pub lists-fault : List ℕ → ℕ → ℕ → ℕ → ℕ → Option Refusal
-lists-fault bs n own zero p = cond (ltb p (length bs)) (Some (WrongLength p)) None
+lists-fault bs n own zero p = end-fault bs p
 lists-fault bs n own (suc k) p = or-else (list-fault bs n own p) (lists-fault bs n (suc own) k (next-start bs p))
 
 -- The first fault of the bytes of a year, from front to back; None where they are accepted.
-unfoldable pub fault : List ℕ → Option Refusal
-fault bs =
-    cond (ltb (length bs) 2) (Some (WrongLength (length bs)))
-    (cond (ltb 0 (number-at bs 0) && ltb (number-at bs 0) 4001) (lists-fault bs (number-at bs 0) 0 (number-at bs 0) 2)
-    (Some WrongCount))
+abbrev pub fault : List ℕ → Option Refusal
+fault bs = or-else (count-fault bs) (lists-fault bs (number-at bs 0) 0 (number-at bs 0) 2)
 
--- the bytes are accepted, and the list of trader i begins at p
+-- in accepted bytes, the list of trader i begins at p
 abbrev pub Begins : List ℕ → ℕ → ℕ → Type 0
 Begins bs i p = (fault bs ≡ None) × (i < number-at bs 0) × (p ≡ start bs i)
 
@@ -117,10 +127,18 @@ encode-lists (l ∷ ls) = (length l ∷ encode-stands l) ++ encode-lists ls
 unfoldable pub encode : Lists → List ℕ
 encode ls = bytes-of (length ls) ++ encode-lists ls
 
+-- In accepted bytes, the slice that is handed out for a trader's list is that trader's list.
+abbrev pub Slices-are-lists : Type 0
+Slices-are-lists =
+    (bs : List ℕ) (i p : ℕ) → Begins bs i p →
+    (next-start bs p ≤ length bs) × (numbers (list-bytes bs p) ≡ getD (lists-of bs) i [])
+
 -- The accepted bytes are exactly the encodings of encodable lists: what is encoded is accepted and read as the same lists,
 -- and what is accepted gives encodable lists whose encoding is those very bytes.
 abbrev pub Reads-what-was-written : Type 0
-Reads-what-was-written = (ls : Lists) → Encodable ls → (fault (encode ls) ≡ None) × (lists-of (encode ls) ≡ ls)
+Reads-what-was-written =
+    (ls : Lists) → Encodable ls →
+    (fault (encode ls) ≡ None) × (lists-of (encode ls) ≡ ls) × ((k : ℕ) → getD (encode ls) k 0 < 256)
 
 abbrev pub Writes-what-was-read : Type 0
 Writes-what-was-read =

@@ -7,7 +7,8 @@ ghost use mathlib.Core.List.{List, []};
 ghost use mathlib.Core.Path.{_≡_};
 ghost use Rattle.std.specs.declared.option.Option.the-variants.{Some, None};
 ghost use Rattle.std.specs.Options.{Cases as BySome};
-ghost use Rattle.lists.specs.Format.{Begins, fault, list-bytes, list-fault, lists-of, next-start, number-at, numbers, stands-fault, start, unless};
+ghost use Rattle.std.specs.Results.{Cases as ByOk};
+ghost use Rattle.lists.specs.Format.{count-fault, end-fault, fault, length-fault, list-bytes, lists-fault, next-start, number-at, stand-fault, stands-fault, start, unless};
 use crate::refusals::Refusal;
 
 const MOST_TRADERS: u16 = 4000;
@@ -24,8 +25,50 @@ fn number_in(bytes: &[u8], at: usize) -> Option<u16>
     Some(u16::from_le_bytes([bytes[at], bytes[at + 1]]))
 }
 
-// Reads `count` stands of trader `own` from byte `from` on, and hands on where they end. `seen` has own + 1 at the stands
-// that this list has named so far, and less at all others, so that a look at one entry tells a stand named twice.
+// The number of traders.
+fn read_count(bytes: &[u8]) -> Result<u16, Refusal>
+    ensures { λ r. ⌜ ByOk r (λ n. (n ≡ number-at (now (bytes .entry)) 0) × (n ≤ 4000) × (count-fault (now (bytes .entry)) ≡ None)) (λ f. count-fault (now (bytes .entry)) ≡ Some f) ⌝ }
+{
+    let Some(n) = number_in(bytes, 0) else {
+        return Err(Refusal::WrongLength { at: bytes.len() });
+    };
+    if n == 0 || n > MOST_TRADERS {
+        return Err(Refusal::WrongCount);
+    }
+    Ok(n)
+}
+
+// The count of the list that begins at byte `at`.
+fn read_length(bytes: &[u8], at: usize) -> Result<u8, Refusal>
+    ensures { λ r. ⌜ r ≡ unless (length-fault (now (bytes .entry)) at) (getD (now (bytes .entry)) at 0) ⌝ }
+{
+    if at >= bytes.len() {
+        return Err(Refusal::WrongLength { at: bytes.len() });
+    }
+    let count = bytes[at];
+    if count > MOST_STANDS {
+        return Err(Refusal::LongList { at });
+    }
+    Ok(count)
+}
+
+// The stand at byte `at` of trader own's list. `seen` has own + 1 at the stands that this list has named before, so that a
+// look at one entry tells a stand named twice.
+fn read_stand(bytes: &[u8], n: u16, own: u16, at: usize, seen: &[u16]) -> Result<u16, Refusal>
+    requires { ⌜ own < n ⌝ ∗ ⌜ n ≤ length (now seen) ⌝ }
+    ensures { λ r. ⌜ r ≡ unless (stand-fault (now (bytes .entry)) n own at (eqb (getD (now (seen .entry)) (number-at (now (bytes .entry)) at) 0) (own + 1))) (number-at (now (bytes .entry)) at) ⌝ }
+{
+    let Some(stand) = number_in(bytes, at) else {
+        return Err(Refusal::WrongLength { at: bytes.len() });
+    };
+    if stand >= n || stand == own || seen[stand as usize] == own + 1 {
+        return Err(Refusal::WrongStand { at });
+    }
+    Ok(stand)
+}
+
+// Reads `count` stands of trader `own` from byte `from` on, and hands on where they end. At first `seen` has at most own at
+// every stand, from the lists before.
 fn read_stands(
     bytes: &[u8],
     n: u16,
@@ -42,53 +85,35 @@ fn read_stands(
 {
     let mut at = from;
     for k in 0..count {
-        let Some(stand) = number_in(bytes, at) else {
-            return Err(Refusal::WrongLength { at: bytes.len() });
-        };
-        if stand >= n || stand == own || seen[stand as usize] == own + 1 {
-            return Err(Refusal::WrongStand { at });
-        }
+        let stand = read_stand(bytes, n, own, at, seen)?;
         seen[stand as usize] = own + 1;
         at += 2;
     }
     Ok(at)
 }
 
-// Reads the list of trader `own`, which begins at byte `at`, and hands on where the next one begins.
-fn read_list(bytes: &[u8], n: u16, own: u16, at: usize, seen: &mut [u16]) -> Result<usize, Refusal>
-    requires bound { ⌜ own < n ⌝ ∗ ⌜ n ≤ 4000 ⌝ }
-    requires room { ⌜ length (now seen) ≡ 4000 ⌝ }
-    requires fresh { ⌜ ((t : ℕ) → getD (now seen) t 0 ≤ own) ⌝ }
-    ensures answer { λ r. ⌜ r ≡ unless (list-fault (now (bytes .entry)) n own at) (next-start (now (bytes .entry)) at) ⌝ }
-    ensures marks { λ _. ⌜ ((t : ℕ) → getD (now (seen .exit)) t 0 ≤ own + 1) ⌝ }
+// Reads n lists, and hands on where they end.
+fn read_lists(bytes: &[u8], n: u16) -> Result<usize, Refusal>
+    requires { ⌜ n ≤ 4000 ⌝ }
+    ensures { λ r. ⌜ ByOk r (λ end. lists-fault (now (bytes .entry)) n 0 n 2 ≡ end-fault (now (bytes .entry)) end) (λ f. lists-fault (now (bytes .entry)) n 0 n 2 ≡ Some f) ⌝ }
 {
-    if at >= bytes.len() {
-        return Err(Refusal::WrongLength { at: bytes.len() });
+    let mut seen = [0u16; 4000];
+    let mut at = 2;
+    for own in 0..n {
+        let count = read_length(bytes, at)?;
+        at = read_stands(bytes, n, own, count, at + 1, &mut seen)?;
     }
-    let count = bytes[at];
-    if count > MOST_STANDS {
-        return Err(Refusal::LongList { at });
-    }
-    read_stands(bytes, n, own, count, at + 1, seen)
+    Ok(at)
 }
 
 // Reads the lists of a year: the number of traders, or the first fault from front to back.
 pub fn read(bytes: &[u8]) -> Result<u16, Refusal>
     ensures { λ r. ⌜ r ≡ unless (fault (now (bytes .entry))) (number-at (now (bytes .entry)) 0) ⌝ }
 {
-    let Some(n) = number_in(bytes, 0) else {
-        return Err(Refusal::WrongLength { at: bytes.len() });
-    };
-    if n == 0 || n > MOST_TRADERS {
-        return Err(Refusal::WrongCount);
-    }
-    let mut seen = [0u16; 4000];
-    let mut at = 2;
-    for own in 0..n {
-        at = read_list(bytes, n, own, at, &mut seen)?;
-    }
-    if at < bytes.len() {
-        return Err(Refusal::WrongLength { at });
+    let n = read_count(bytes)?;
+    let end = read_lists(bytes, n)?;
+    if end < bytes.len() {
+        return Err(Refusal::WrongLength { at: end });
     }
     Ok(n)
 }
@@ -97,19 +122,21 @@ pub fn read(bytes: &[u8]) -> Result<u16, Refusal>
 pub fn start_of(bytes: &[u8], trader: u16) -> usize
     ensures { λ r. ⌜ r ≡ start (now (bytes .entry)) trader ⌝ }
 {
-    let mut at = 2;
+    let mut position = 2;
     for i in 0..trader {
-        let count = if at >= bytes.len() { 0 } else { bytes[at] };
-        at += 1 + 2 * count as usize;
+        let count = if position >= bytes.len() {
+            0
+        } else {
+            bytes[position]
+        };
+        position += 1 + 2 * count as usize;
     }
-    at
+    position
 }
 
 // The bytes of the stands of the list that begins at byte `at`, a part of the bytes; None where they do not all stand there.
-// In accepted bytes that is trader i's list, for every trader i whose list begins there.
 pub fn list_at(bytes: &[u8], at: usize) -> Option<&[u8]>
-    ensures part { λ r. ⌜ BySome r (length (now (bytes .entry)) < next-start (now (bytes .entry)) at) (λ s. (now s ≡ list-bytes (now (bytes .entry)) at) × (next-start (now (bytes .entry)) at ≤ length (now (bytes .entry)))) ⌝ }
-    ensures list { λ r. ⌜ ((i : ℕ) → Begins (now (bytes .entry)) i at → BySome r ⊥ (λ s. numbers (now s) ≡ getD (lists-of (now (bytes .entry))) i [])) ⌝ }
+    ensures { λ r. ⌜ BySome r (length (now (bytes .entry)) < next-start (now (bytes .entry)) at) (λ s. (now s ≡ list-bytes (now (bytes .entry)) at) × (next-start (now (bytes .entry)) at ≤ length (now (bytes .entry)))) ⌝ }
 {
     if at >= bytes.len() {
         return None;

@@ -4,4 +4,4 @@ use Rattle.lists.specs.Format.{start}
 use Rattle.lists.proofs.reading.start_of.Given as given
 
 abbrev pub Inv-loop-i : given.InvT-loop-i
-Inv-loop-i l = (l .at ≡ start (l .bytes) (l .i)) × (l .at ≤ 2 + 511 * l .i)
+Inv-loop-i l = (l .position ≡ start (l .bytes) (l .i)) × (l .position ≤ 2 + 511 * l .i)

@@ -2,7 +2,7 @@ use Prim.Native.Nat.{ℕ, _-_, _≤_}
 use mathlib.Core.Path.{_≡_}
 use lib.ListN.{getD, length}
 use Rattle.lists.specs.Format.{lists-fault}
-use Rattle.lists.proofs.reading.read.Given as given
+use Rattle.lists.proofs.reading.read_lists.Given as given
 
 abbrev pub Inv-loop-own : given.InvT-loop-own
 Inv-loop-own l =
