@@ -1,3 +1,4 @@
 pub mod Trade
 pub mod Promise
 pub mod Refusals
+pub mod Certificate

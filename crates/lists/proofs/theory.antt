@@ -1,0 +1,2 @@
+-- The mathematics of the exchange; each file builds only on those before it.
+pub mod Finite
