@@ -1,2 +1,4 @@
 -- The mathematics of the exchange; each file builds only on those before it.
 pub mod Finite
+pub mod Ranks
+pub mod Certificates
