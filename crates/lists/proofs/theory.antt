@@ -2,3 +2,7 @@
 pub mod Finite
 pub mod Ranks
 pub mod Certificates
+pub mod Walks
+pub mod Leaving
+pub mod Runs
+pub mod Rounds

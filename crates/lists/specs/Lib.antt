@@ -2,3 +2,4 @@ pub mod Trade
 pub mod Promise
 pub mod Refusals
 pub mod Certificate
+pub mod Runs

@@ -1,5 +1,5 @@
 -- Finite sets of numbers, as tests: what is found below a bound, how many there are, and functions that map such a set into itself.
-use mathlib.Core.Path.{_≡_, refl, sym, ap, _∙_}
+use mathlib.Core.Path.{_≡_, refl, sym, ap, subst, _∙_}
 use mathlib.Core.Bool.{Bool, true, false, cond, _&&_}
 use mathlib.Core.Logic.{_⊎_, inl, inr}
 use Prim.Native.Nat.{ℕ, zero, suc, _+_, _-_, _≤_, _<_}
@@ -15,15 +15,36 @@ before P h r i = P i && ltb (h i) r
 abbrev pub level : (ℕ → Bool) → (ℕ → ℕ) → ℕ → ℕ → Bool
 level P h r i = P i && eqb (h i) r
 
--- one number below n that passes, or that none does
-pub find : (p : ℕ → Bool) (n : ℕ) → ((k : ℕ) × (k < n) × (p k ≡ true)) ⊎ ((k : ℕ) → k < n → p k ≡ false)
-find p zero = inr (λ k h. absurd (omega arith))
-find p (suc n) = go (find p n) (cases-bool (p n))
+-- the least number below n that passes, or that none does
+pub first : (p : ℕ → Bool) (n : ℕ) → ((k : ℕ) × (k < n) × (p k ≡ true) × ((h : ℕ) → h < k → p h ≡ false)) ⊎ ((k : ℕ) → k < n → p k ≡ false)
+first p zero = inr (λ k h. absurd (omega arith))
+first p (suc n) = go (first p n) (cases-bool (p n))
   where
-    go : ((k : ℕ) × (k < n) × (p k ≡ true)) ⊎ ((k : ℕ) → k < n → p k ≡ false) → (p n ≡ true) ⊎ (p n ≡ false) → ((k : ℕ) × (k < suc n) × (p k ≡ true)) ⊎ ((k : ℕ) → k < suc n → p k ≡ false)
-    go (inl f) b = inl (f .0, omega (arith, f .1), f .2)
-    go (inr g) (inl e) = inl (n, omega arith, e)
+    go : ((k : ℕ) × (k < n) × (p k ≡ true) × ((h : ℕ) → h < k → p h ≡ false)) ⊎ ((k : ℕ) → k < n → p k ≡ false) → (p n ≡ true) ⊎ (p n ≡ false) → ((k : ℕ) × (k < suc n) × (p k ≡ true) × ((h : ℕ) → h < k → p h ≡ false)) ⊎ ((k : ℕ) → k < suc n → p k ≡ false)
+    go (inl f) b = inl (f .0, omega (arith, f .1), f .2, f .3)
+    go (inr g) (inl e) = inl (n, omega arith, e, g)
     go (inr g) (inr e) = inr (λ k h. elim (cases-lt k n) [ inl l ↦ g k l | inr l ↦ (let q : k ≡ n = omega arith in rw q e) ])
+
+pub find : (p : ℕ → Bool) (n : ℕ) → ((k : ℕ) × (k < n) × (p k ≡ true)) ⊎ ((k : ℕ) → k < n → p k ≡ false)
+find p n = elim (first p n) [ inl f ↦ inl (f .0, f .1, f .2) | inr f ↦ inr f ]
+
+-- the same where each number has one thing or the other
+pub find-either : {A B : ℕ → Type 0} (n : ℕ) → ((k : ℕ) → A k ⊎ B k) → ((k : ℕ) × (k < n) × A k) ⊎ ((k : ℕ) → k < n → B k)
+find-either zero f = inr (λ k h. absurd (omega arith))
+find-either {A} {B} (suc n) f = go (find-either n f) (f n)
+  where
+    go : ((k : ℕ) × (k < n) × A k) ⊎ ((k : ℕ) → k < n → B k) → A n ⊎ B n → ((k : ℕ) × (k < suc n) × A k) ⊎ ((k : ℕ) → k < suc n → B k)
+    go (inl w) b = inl (w .0, omega (arith, w .1), w .2)
+    go (inr g) (inl a) = inl (n, omega arith, a)
+    go (inr g) (inr b) = inr (λ k h. elim (cases-lt k n) [ inl l ↦ g k l | inr l ↦ (let q : n ≡ k = omega arith in subst B q b) ])
+
+-- the least number that passes, where k does
+pub least-true : (p : ℕ → Bool) (k : ℕ) → p k ≡ true → (j : ℕ) × (j ≤ k) × (p j ≡ true) × ((h : ℕ) → h < j → p h ≡ false)
+least-true p k e =
+    elim (first p (suc k)) [
+      inl f ↦ (f .0, omega (arith, f .1), f .2, f .3)
+    | inr f ↦ absurd (both-ways (p k) (f k (omega arith)) e)
+    ]
 
 -- how many numbers below n pass
 abbrev pub size : (ℕ → Bool) → ℕ → ℕ
@@ -50,6 +71,10 @@ size-mono p q (suc n) h =
       inl e ↦ rw (e, h n (omega arith) e) (omega arith)
     | inr e ↦ rw e (elim (cases-bool (p n)) [ inl d ↦ rw d (omega arith) | inr d ↦ rw d m ])
     ]
+
+pub size-false : (n : ℕ) → size (λ k. false) n ≡ 0
+size-false zero = refl
+size-false (suc n) = size-false n
 
 pub size-smaller : (p q : ℕ → Bool) (n : ℕ) → ((k : ℕ) → k < n → q k ≡ true → p k ≡ true) → (j : ℕ) → j < n → p j ≡ true → q j ≡ false → size q n < size p n
 size-smaller p q zero h j l a b = absurd (omega arith)
@@ -139,6 +164,16 @@ returns-back f x r (suc a) =
     let w = returns-back f x r a in
     let e : steps f (r .0) (f (steps f a x)) ≡ steps f a x = steps-out f (r .0) (steps f a x) ∙ returns-steps f (r .0) a x (r .1) in
     (w .0 + r .0, steps-add f (w .0) (r .0) (f (steps f a x)) ∙ ap (steps f (w .0)) e ∙ w .1)
+
+-- whatever the steps reach, no more steps than lead back to the start reach it
+pub returns-within : (f : ℕ → ℕ) (k x : ℕ) → steps f (suc k) x ≡ x → (m : ℕ) → (c : ℕ) × (c ≤ k) × (steps f (suc c) x ≡ steps f (suc m) x)
+returns-within f k x e zero = (0, omega arith, refl)
+returns-within f k x e (suc m) =
+    let w = returns-within f k x e m in
+    elim (cases-lt (w .0) k) [
+      inl l ↦ (suc (w .0), l, ap f (w .2))
+    | inr l ↦ (0, omega arith, (let q : k ≡ w .0 = omega (arith, w .1) in ap f (sym e ∙ ap (λ z. steps f (suc z) x) q ∙ w .2)))
+    ]
 
 -- ---- a function that maps a set below n into itself, no two to the same
 
