@@ -6,3 +6,5 @@ pub mod Walks
 pub mod Leaving
 pub mod Runs
 pub mod Rounds
+pub mod Exchange
+pub mod Promises

@@ -1,2 +1,3 @@
 // The lists of a year: their bytes, the refusals, and the definitions of the exchange that every crate above cites.
 pub mod refusals;
+pub mod theorems;
