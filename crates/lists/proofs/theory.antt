@@ -8,3 +8,5 @@ pub mod Runs
 pub mod Rounds
 pub mod Exchange
 pub mod Promises
+pub mod Results
+pub mod Years

@@ -3,3 +3,5 @@ pub mod Promise
 pub mod Refusals
 pub mod Certificate
 pub mod Runs
+pub mod Statements
+pub mod Years

@@ -57,7 +57,10 @@ impl Refusal {
             Refusal::TooShort { lent: _ } => 5,
             Refusal::SheetLength { length: _ } => 6,
             Refusal::StandTaken { trader: _ } => 7,
-            Refusal::DearerLater { trader: _, place: _ } => 8,
+            Refusal::DearerLater {
+                trader: _,
+                place: _,
+            } => 8,
             Refusal::HolderElsewhere { trader: _ } => 9,
             Refusal::PaperFault { field: _ } => 10,
         }

@@ -31,44 +31,48 @@ module _ {rk : ℕ → ℕ → ℕ} {n : ℕ} {S P : ℕ → Bool} {got out : �
 
   pub before-turns : (r : ℕ) → Turning n (before P out r) got
   before-turns r = record {
-      below = λ x p. C .below x (and-parts (P x) (ltb (out x) r) p .0);
-      into = λ x p. (let h = and-parts (P x) (ltb (out x) r) p in
+    below = λ x p. C .below x (and-parts (P x) (ltb (out x) r) p .0);
+    into = λ x p. (let h = and-parts (P x) (ltb (out x) r) p in
         and-from (P (got x)) (ltb (out (got x)) r) (C .into x (h .0)) (rw (C .together x (h .0)) (h .1)));
-      apart = λ x y p q. C .apart x y (and-parts (P x) (ltb (out x) r) p .0) (and-parts (P y) (ltb (out y) r) q .0)
-    }
+    apart = λ x y p q. C .apart x y (and-parts (P x) (ltb (out x) r) p .0) (and-parts (P y) (ltb (out y) r) q .0);
+  }
 
   pub level-turns : (r : ℕ) → Turning n (level P out r) got
   level-turns r = record {
-      below = λ x p. C .below x (and-parts (P x) (eqb (out x) r) p .0);
-      into = λ x p. (let h = and-parts (P x) (eqb (out x) r) p in
+    below = λ x p. C .below x (and-parts (P x) (eqb (out x) r) p .0);
+    into = λ x p. (let h = and-parts (P x) (eqb (out x) r) p in
         and-from (P (got x)) (eqb (out (got x)) r) (C .into x (h .0)) (rw (C .together x (h .0)) (h .1)));
-      apart = λ x y p q. C .apart x y (and-parts (P x) (eqb (out x) r) p .0) (and-parts (P y) (eqb (out y) r) q .0)
-    }
+    apart = λ x y p q. C .apart x y (and-parts (P x) (eqb (out x) r) p .0) (and-parts (P y) (eqb (out y) r) q .0);
+  }
 
   -- those of lower rounds alone
   pub earlier : (r : ℕ) → Certificate rk n S (before P out r) got out
   earlier r = record {
-      below = before-turns r .below;
-      part = λ i p. C .part i (and-parts (P i) (ltb (out i) r) p .0);
-      into = before-turns r .into;
-      apart = before-turns r .apart;
-      together = λ i p. C .together i (and-parts (P i) (ltb (out i) r) p .0);
-      dearer = λ i t p s l. (let h = and-parts (P i) (ltb (out i) r) p in
+    below = before-turns r .below;
+    part = λ i p. C .part i (and-parts (P i) (ltb (out i) r) p .0);
+    into = before-turns r .into;
+    apart = before-turns r .apart;
+    together = λ i p. C .together i (and-parts (P i) (ltb (out i) r) p .0);
+    dearer = λ i t p s l. (let h = and-parts (P i) (ltb (out i) r) p in
         let d = C .dearer i t (h .0) s l in
         let b = ltb-true (out i) r (h .1) in
-        (and-from (P t) (ltb (out t) r) (d .0) (lt-ltb (out t) r (omega arith)), d .1))
-    }
+        (and-from (P t) (ltb (out t) r) (d .0) (lt-ltb (out t) r (omega arith)), d .1));
+  }
 
   -- other ranks by which no more stands are dearer than those got
   pub reranked : (rk′ : ℕ → ℕ → ℕ) → ((i t : ℕ) → P i ≡ true → rk′ i t < rk′ i (got i) → rk i t < rk i (got i)) → Certificate rk′ n S P got out
   reranked rk′ f = record {
-      below = C .below; part = C .part; into = C .into; apart = C .apart; together = C .together;
-      dearer = λ i t p s l. C .dearer i t p s (f i t p l)
-    }
+    below = C .below;
+    part = C .part;
+    into = C .into;
+    apart = C .apart;
+    together = C .together;
+    dearer = λ i t p s l. C .dearer i t p s (f i t p l);
+  }
 
   -- a stand got by one of a lower round is got by nobody of this round or later, whatever σ gives the rest
   pub not-theirs : (σ : ℕ → ℕ) (r : ℕ) → ((x : ℕ) → P x ≡ true → out x < r → σ x ≡ got x) → (j t : ℕ) → P t ≡ true → out t < r → r ≤ out j →
-    ((x : ℕ) → P x ≡ true → σ x ≡ σ j → x ≡ j) → σ j ≡ t → ⊥
+      ((x : ℕ) → P x ≡ true → σ x ≡ σ j → x ≡ j) → σ j ≡ t → ⊥
   not-theirs σ r same j t p l m apart e =
       let w = preimage (before-turns r) t (and-from (P t) (ltb (out t) r) p (lt-ltb (out t) r l)) in
       let h = and-parts (P (w .0)) (ltb (out (w .0)) r) (w .1) in
@@ -84,22 +88,25 @@ module _ {rk : ℕ → ℕ → ℕ} {n : ℕ} {S P : ℕ → Bool} {got out got�
   level-agrees : (r : ℕ) → ((i : ℕ) → P i ≡ true → out i < r → got′ i ≡ got i) → (j : ℕ) → P j ≡ true → out j ≡ r → got′ j ≡ got j
   level-agrees r ih j p o =
       let not-dearer : (x : ℕ) → P x ≡ true → out x ≡ r → rk x (got x) ≤ rk x (got′ x) =
-        λ x p o. elim (cases-lt (rk x (got′ x)) (rk x (got x))) [
-          inl l ↦ absurd (let d = C .dearer x (got′ x) p (D .into x (C .part x p)) l in
+      λ x p o. elim (cases-lt (rk x (got′ x)) (rk x (got x))) [
+        | inl l ↦ absurd (let d = C .dearer x (got′ x) p (D .into x (C .part x p)) l in
             not-theirs C got′ r ih x (got′ x) (d .0) (omega arith) (omega arith) (λ y q. D .apart y x (C .part y q) (C .part x p)) refl)
-        | inr l ↦ l ] in
+        | inr l ↦ l
+      ] in
       let falls : (x : ℕ) → level P out r x ≡ true → out′ (got x) ≤ out′ x =
-        λ x q. (let h = and-parts (P x) (eqb (out x) r) q in
-          let m = not-dearer x (h .0) (eqb-true (out x) r (h .1)) in
-          elim (cases-lt (rk x (got x)) (rk x (got′ x))) [
-            inl l ↦ (let d = D .dearer x (got x) (C .part x (h .0)) (C .part (got x) (C .into x (h .0))) l in omega arith)
-          | inr l ↦ (let e : got x ≡ got′ x = tie x (got x) (got′ x) (own-or-dearer C x (h .0)) (omega arith) in
-              let t = ap out′ e in let u = D .together x (C .part x (h .0)) in omega arith) ]) in
+      λ x q. (let h = and-parts (P x) (eqb (out x) r) q in
+      let m = not-dearer x (h .0) (eqb-true (out x) r (h .1)) in
+      elim (cases-lt (rk x (got x)) (rk x (got′ x))) [
+        | inl l ↦ (let d = D .dearer x (got x) (C .part x (h .0)) (C .part (got x) (C .into x (h .0))) l in omega arith)
+        | inr l ↦ (let e : got x ≡ got′ x = tie x (got x) (got′ x) (own-or-dearer C x (h .0)) (omega arith) in
+            let t = ap out′ e in let u = D .together x (C .part x (h .0)) in omega arith)
+      ]) in
       let same : out′ (got j) ≡ out′ j = ring-mono (level-turns C r) out′ falls j (and-from (P j) (eqb (out j) r) p (eq-eqb (out j) r o)) in
       let m = not-dearer j p o in
       elim (cases-lt (rk j (got j)) (rk j (got′ j))) [
-        inl l ↦ absurd (let d = D .dearer j (got j) (C .part j p) (C .part (got j) (C .into j p)) l in omega arith)
-      | inr l ↦ sym (tie j (got j) (got′ j) (own-or-dearer C j p) (omega arith)) ]
+        | inl l ↦ absurd (let d = D .dearer j (got j) (C .part j p) (C .part (got j) (C .into j p)) l in omega arith)
+        | inr l ↦ sym (tie j (got j) (got′ j) (own-or-dearer C j p) (omega arith))
+      ]
 
   agrees : (r : ℕ) (i : ℕ) → P i ≡ true → out i < r → got′ i ≡ got i
   agrees zero i p l = absurd (omega arith)
@@ -115,21 +122,22 @@ module _ {rk : ℕ → ℕ → ℕ} {n : ℕ} {S : ℕ → Bool} {got out : ℕ 
     level-keeps : (r : ℕ) → ((i : ℕ) → G i ≡ true → out i < r → share i ≡ got i) → (j : ℕ) → G j ≡ true → out j ≡ r → share j ≡ got j
     level-keeps r ih j g o =
         let T′ : Turning n (before G out r) share = record {
-            below = λ x p. T .below x (and-parts (G x) (ltb (out x) r) p .0);
-            into = λ x p. (let h = and-parts (G x) (ltb (out x) r) p in
+          below = λ x p. T .below x (and-parts (G x) (ltb (out x) r) p .0);
+          into = λ x p. (let h = and-parts (G x) (ltb (out x) r) p in
               and-from (G (share x)) (ltb (out (share x)) r) (T .into x (h .0))
-                (rw (ih x (h .0) (ltb-true (out x) r (h .1)), C .together x (part x (h .0))) (h .1)));
-            apart = λ x y p q. T .apart x y (and-parts (G x) (ltb (out x) r) p .0) (and-parts (G y) (ltb (out y) r) q .0)
-          } in
+              (rw (ih x (h .0) (ltb-true (out x) r (h .1)), C .together x (part x (h .0))) (h .1)));
+          apart = λ x y p q. T .apart x y (and-parts (G x) (ltb (out x) r) p .0) (and-parts (G y) (ltb (out y) r) q .0);
+        } in
         let w = well j g in
         elim (cases-lt (rk j (share j)) (rk j (got j))) [
-          inl l ↦ absurd (let d = C .dearer j (share j) (part j g) (part (share j) (T .into j g)) l in
-            let y = preimage T′ (share j) (and-from (G (share j)) (ltb (out (share j)) r) (T .into j g) (lt-ltb (out (share j)) r (omega arith))) in
-            let h = and-parts (G (y .0)) (ltb (out (y .0)) r) (y .1) in
-            let b = ltb-true (out (y .0)) r (h .1) in
-            let q = ap out (T .apart (y .0) j (h .0) g (y .2)) in
-            omega arith)
-        | inr l ↦ sym (tie j (got j) (share j) (own-or-dearer C j (part j g)) (omega arith)) ]
+          | inl l ↦ absurd (let d = C .dearer j (share j) (part j g) (part (share j) (T .into j g)) l in
+              let y = preimage T′ (share j) (and-from (G (share j)) (ltb (out (share j)) r) (T .into j g) (lt-ltb (out (share j)) r (omega arith))) in
+              let h = and-parts (G (y .0)) (ltb (out (y .0)) r) (y .1) in
+              let b = ltb-true (out (y .0)) r (h .1) in
+              let q = ap out (T .apart (y .0) j (h .0) g (y .2)) in
+              omega arith)
+          | inr l ↦ sym (tie j (got j) (share j) (own-or-dearer C j (part j g)) (omega arith))
+        ]
 
     keeps : (r : ℕ) (i : ℕ) → G i ≡ true → out i < r → share i ≡ got i
     keeps zero i g l = absurd (omega arith)
@@ -143,12 +151,13 @@ module _ {rk : ℕ → ℕ → ℕ} {n : ℕ} {S : ℕ → Bool} {got out : ℕ 
     level-only : (r : ℕ) → ((i : ℕ) → S i ≡ true → out i < r → σ i ≡ got i) → (j : ℕ) → S j ≡ true → out j ≡ r → σ j ≡ got j
     level-only r ih j p o =
         let well : (x : ℕ) → level S out r x ≡ true → rk x (got x) ≤ rk x (σ x) =
-          λ x q. (let h = and-parts (S x) (eqb (out x) r) q in
-            let o = eqb-true (out x) r (h .1) in
-            elim (cases-lt (rk x (σ x)) (rk x (got x))) [
-              inl l ↦ absurd (let d = C .dearer x (σ x) (h .0) (T .into x (h .0)) l in
-                not-theirs C σ r ih x (σ x) (d .0) (omega arith) (omega arith) (λ y q. T .apart y x q (h .0)) refl)
-            | inr l ↦ l ]) in
+        λ x q. (let h = and-parts (S x) (eqb (out x) r) q in
+        let o = eqb-true (out x) r (h .1) in
+        elim (cases-lt (rk x (σ x)) (rk x (got x))) [
+          | inl l ↦ absurd (let d = C .dearer x (σ x) (h .0) (T .into x (h .0)) l in
+              not-theirs C σ r ih x (σ x) (d .0) (omega arith) (omega arith) (λ y q. T .apart y x q (h .0)) refl)
+          | inr l ↦ l
+        ]) in
         sym (unbettered (level S out r) got (level-turns C r) (λ x q. and-parts (S x) (eqb (out x) r) q .0) well j (and-from (S j) (eqb (out j) r) p (eq-eqb (out j) r o)))
 
     only : (r : ℕ) (i : ℕ) → S i ≡ true → out i < r → σ i ≡ got i
@@ -162,16 +171,17 @@ module _ {rk : ℕ → ℕ → ℕ} {n : ℕ} {S : ℕ → Bool} {got out : ℕ 
 
 -- Ranks that differ for trader i alone: what i gets by the other ranks is not dearer by its own.
 pub no-gain : {rk rk′ : ℕ → ℕ → ℕ} {n : ℕ} {S : ℕ → Bool} {got out got′ out′ : ℕ → ℕ} → Tieless rk′ →
-  Certificate rk n S S got out → Certificate rk′ n S S got′ out′ → (i : ℕ) → S i ≡ true →
-  ((j t : ℕ) → (j ≡ i → ⊥) → rk′ j t ≡ rk j t) → rk i (got i) ≤ rk i (got′ i)
+    Certificate rk n S S got out → Certificate rk′ n S S got′ out′ → (i : ℕ) → S i ≡ true →
+    ((j t : ℕ) → (j ≡ i → ⊥) → rk′ j t ≡ rk j t) → rk i (got i) ≤ rk i (got′ i)
 no-gain {rk = rk} {rk′ = rk′} {S = S} {got = got} {out = out} {got′ = got′} tie C D i p same =
     let E = earlier C (out i) in
     let others : (x : ℕ) → before S out (out i) x ≡ true → x ≡ i → ⊥ =
-      λ x q e. (let b = ltb-true (out x) (out i) (and-parts (S x) (ltb (out x) (out i)) q .1) in let z = ap out e in omega arith) in
+    λ x q e. (let b = ltb-true (out x) (out i) (and-parts (S x) (ltb (out x) (out i)) q .1) in let z = ap out e in omega arith) in
     let E′ = reranked E rk′ (λ x t q l. (let a = same x t (others x q) in let b = same x (got x) (others x q) in omega arith)) in
     let ih : (x : ℕ) → S x ≡ true → out x < out i → got′ x ≡ got x =
-      λ x s l. segment tie E′ D x (and-from (S x) (ltb (out x) (out i)) s (lt-ltb (out x) (out i) l)) in
+    λ x s l. segment tie E′ D x (and-from (S x) (ltb (out x) (out i)) s (lt-ltb (out x) (out i) l)) in
     elim (cases-lt (rk i (got′ i)) (rk i (got i))) [
-      inl l ↦ absurd (let d = C .dearer i (got′ i) p (D .into i p) l in
-        not-theirs C got′ (out i) ih i (got′ i) (d .0) (d .1) (omega arith) (λ y q. D .apart y i q p) refl)
-    | inr l ↦ l ]
+      | inl l ↦ absurd (let d = C .dearer i (got′ i) p (D .into i p) l in
+          not-theirs C got′ (out i) ih i (got′ i) (d .0) (d .1) (omega arith) (λ y q. D .apart y i q p) refl)
+      | inr l ↦ l
+    ]

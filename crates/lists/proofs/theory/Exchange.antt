@@ -35,11 +35,11 @@ all-in-in ls i l = rw (getD-replicate {A = ℕ} (length ls) i 1 0 l)
 pub all-in-below : (ls : Lists) (i : ℕ) → is-in (all-in ls) i ≡ true → i < length ls
 all-in-below ls i e = let b = in-below (all-in ls) i e in omega (arith, all-in-sized ls .inside-length)
 
-all-in-everyone : (ls : Lists) (i : ℕ) → is-in (all-in ls) i ≡ everyone (length ls) i
+pub all-in-everyone : (ls : Lists) (i : ℕ) → is-in (all-in ls) i ≡ everyone (length ls) i
 all-in-everyone ls i =
     elim (cases-lt i (length ls)) [
-      inl l ↦ all-in-in ls i l ∙ sym (lt-ltb i (length ls) l)
-    | inr l ↦ out-past (all-in ls) i (omega (arith, all-in-sized ls .inside-length)) ∙ sym (le-ltb i (length ls) l)
+      | inl l ↦ all-in-in ls i l ∙ sym (lt-ltb i (length ls) l)
+      | inr l ↦ out-past (all-in ls) i (omega (arith, all-in-sized ls .inside-length)) ∙ sym (le-ltb i (length ls) l)
     ]
 
 -- ---- the standing after k rounds
@@ -76,16 +76,17 @@ module _ (ls : Lists) where
   unfolding all-in
   rounds-inside-bits zero i =
       elim (cases-lt i (length ls)) [
-        inl l ↦ inr (ap (λ t. getD (t .inside) i 0) rounds-start ∙ getD-replicate {A = ℕ} (length ls) i 1 0 l)
-      | inr l ↦ inl (getD-past (rounds ls 0 .inside) i 0 (omega (arith, rounds-inside-length 0)))
+        | inl l ↦ inr (ap (λ t. getD (t .inside) i 0) rounds-start ∙ getD-replicate {A = ℕ} (length ls) i 1 0 l)
+        | inr l ↦ inl (getD-past (rounds ls 0 .inside) i 0 (omega (arith, rounds-inside-length 0)))
       ]
   rounds-inside-bits (suc k) i =
       elim (cases-lt i (length ls)) [
-        inl l ↦ elim (cases-bool (on-ring ls (rounds ls k) i)) [
-          inl d ↦ inl (rounds-inside-next k i l ∙ cond-true (on-ring ls (rounds ls k) i) 0 (getD (rounds ls k .inside) i 0) d)
-        | inr d ↦ (let e = rounds-inside-next k i l ∙ cond-false (on-ring ls (rounds ls k) i) 0 (getD (rounds ls k .inside) i 0) d in
-            elim (rounds-inside-bits k i) [ inl h ↦ inl (e ∙ h) | inr h ↦ inr (e ∙ h) ]) ]
-      | inr l ↦ inl (getD-past (rounds ls (suc k) .inside) i 0 (omega (arith, rounds-inside-length (suc k))))
+        | inl l ↦ elim (cases-bool (on-ring ls (rounds ls k) i)) [
+          | inl d ↦ inl (rounds-inside-next k i l ∙ cond-true (on-ring ls (rounds ls k) i) 0 (getD (rounds ls k .inside) i 0) d)
+          | inr d ↦ (let e = rounds-inside-next k i l ∙ cond-false (on-ring ls (rounds ls k) i) 0 (getD (rounds ls k .inside) i 0) d in
+              elim (rounds-inside-bits k i) [ inl h ↦ inl (e ∙ h) | inr h ↦ inr (e ∙ h) ])
+        ]
+        | inr l ↦ inl (getD-past (rounds ls (suc k) .inside) i 0 (omega (arith, rounds-inside-length (suc k))))
       ]
 
   -- nobody who is in has a number past the last trader's
@@ -155,7 +156,7 @@ module _ (ls : Lists) where
   unfolding rounds result out
   certificate =
       subst (λ (S : ℕ → Bool). Certificate (rank ls) (length ls) S S (result ls) (out ls)) (fun-ext (all-in-everyone ls))
-        (own-certificate ls (all-in ls) (all-in-sized ls))
+      (own-certificate ls (all-in ls) (all-in-sized ls))
 
   -- the same with the number of traders under another name
   pub certificate-of : (n : ℕ) → length ls ≡ n → Certificate (rank ls) n (everyone n) (everyone n) (result ls) (out ls)
@@ -164,13 +165,18 @@ module _ (ls : Lists) where
   -- a valid sheet is a certificate
   pub sheet-certificate : {got out : ℕ → ℕ} → Valid-sheet ls got out → Certificate (rank ls) (length ls) (everyone (length ls)) (everyone (length ls)) got out
   sheet-certificate {got} {out} v = record {
-      below = λ i p. ltb-true i (length ls) p;
-      part = λ i p. p;
-      into = λ i p. lt-ltb (got i) (length ls) (v .exists i (ltb-true i (length ls) p));
-      apart = λ i j p q. v .apart i j (ltb-true i (length ls) p) (ltb-true j (length ls) q);
-      together = λ i p. v .together i (ltb-true i (length ls) p);
-      dearer = λ i t p q l. (q, v .dearer i t (ltb-true i (length ls) p) (ltb-true t (length ls) q) l)
-    }
+    below = λ i p. ltb-true i (length ls) p;
+    part = λ i p. p;
+    into = λ i p. lt-ltb (got i) (length ls) (v .exists i (ltb-true i (length ls) p));
+    apart = λ i j p q. v .apart i j (ltb-true i (length ls) p) (ltb-true j (length ls) q);
+    together = λ i p. v .together i (ltb-true i (length ls) p);
+    dearer = λ i t p q l. (q, v .dearer i t (ltb-true i (length ls) p) (ltb-true t (length ls) q) l);
+  }
+
+  -- all traders are those who are in at the start
+  pub certificate-start : {got out : ℕ → ℕ} → Certificate (rank ls) (length ls) (everyone (length ls)) (everyone (length ls)) got out →
+      Certificate (rank ls) (length ls) (is-in (all-in ls)) (is-in (all-in ls)) got out
+  certificate-start {got} {out} C = subst (λ (S : ℕ → Bool). Certificate (rank ls) (length ls) S S got out) (sym (fun-ext (all-in-everyone ls))) C
 
   -- every certificate of all traders gives the results
   pub certificate-result : {got out : ℕ → ℕ} → Certificate (rank ls) (length ls) (everyone (length ls)) (everyone (length ls)) got out → (i : ℕ) → i < length ls → got i ≡ result ls i
@@ -190,11 +196,11 @@ module _ (ls : Lists) where
       rw (e, rounds-start) (omega arith)
 
   pub count-more : (k : ℕ) → k < length ls → none-in (rounds ls k .inside) ≡ false → round-count ls ≡ k + count-from ls (rounds ls k) (length ls - k) →
-    round-count ls ≡ suc k + count-from ls (rounds ls (suc k)) (length ls - suc k)
+      round-count ls ≡ suc k + count-from ls (rounds ls (suc k)) (length ls - suc k)
   count-more k l e h =
       let m : length ls - k ≡ suc (length ls - suc k) = omega arith in
       let c : count-from ls (rounds ls k) (length ls - k) ≡ suc (count-from ls (rounds ls (suc k)) (length ls - suc k)) =
-        rw (m, rounds-next k) (count-on ls (rounds ls k) (length ls - suc k) e) in
+      rw (m, rounds-next k) (count-on ls (rounds ls k) (length ls - suc k) e) in
       omega arith
 
   pub count-end : (k : ℕ) → none-in (rounds ls k .inside) ≡ true → round-count ls ≡ k + count-from ls (rounds ls k) (length ls - k) → round-count ls ≡ k

@@ -42,8 +42,8 @@ find-either {A} {B} (suc n) f = go (find-either n f) (f n)
 pub least-true : (p : ℕ → Bool) (k : ℕ) → p k ≡ true → (j : ℕ) × (j ≤ k) × (p j ≡ true) × ((h : ℕ) → h < j → p h ≡ false)
 least-true p k e =
     elim (first p (suc k)) [
-      inl f ↦ (f .0, omega (arith, f .1), f .2, f .3)
-    | inr f ↦ absurd (both-ways (p k) (f k (omega arith)) e)
+      | inl f ↦ (f .0, omega (arith, f .1), f .2, f .3)
+      | inr f ↦ absurd (both-ways (p k) (f k (omega arith)) e)
     ]
 
 -- how many numbers below n pass
@@ -59,8 +59,8 @@ pub size-none : (p : ℕ → Bool) (n : ℕ) → size p n ≤ 0 → (k : ℕ) �
 size-none p zero h k l = absurd (omega arith)
 size-none p (suc n) h k l =
     elim (cases-bool (p n)) [
-      inl e ↦ absurd (let z : suc (size p n) ≤ 0 = rw e at h in omega arith)
-    | inr e ↦ elim (cases-lt k n) [ inl m ↦ size-none p n (rw e at h) k m | inr m ↦ (let q : k ≡ n = omega arith in rw q e) ]
+      | inl e ↦ absurd (let z : suc (size p n) ≤ 0 = rw e at h in omega arith)
+      | inr e ↦ elim (cases-lt k n) [ inl m ↦ size-none p n (rw e at h) k m | inr m ↦ (let q : k ≡ n = omega arith in rw q e) ]
     ]
 
 pub size-mono : (p q : ℕ → Bool) (n : ℕ) → ((k : ℕ) → k < n → q k ≡ true → p k ≡ true) → size q n ≤ size p n
@@ -68,8 +68,8 @@ size-mono p q zero h = omega arith
 size-mono p q (suc n) h =
     let m = size-mono p q n (λ k l. h k (omega arith)) in
     elim (cases-bool (q n)) [
-      inl e ↦ rw (e, h n (omega arith) e) (omega arith)
-    | inr e ↦ rw e (elim (cases-bool (p n)) [ inl d ↦ rw d (omega arith) | inr d ↦ rw d m ])
+      | inl e ↦ rw (e, h n (omega arith) e) (omega arith)
+      | inr e ↦ rw e (elim (cases-bool (p n)) [ inl d ↦ rw d (omega arith) | inr d ↦ rw d m ])
     ]
 
 pub size-false : (n : ℕ) → size (λ k. false) n ≡ 0
@@ -80,18 +80,18 @@ pub size-smaller : (p q : ℕ → Bool) (n : ℕ) → ((k : ℕ) → k < n → q
 size-smaller p q zero h j l a b = absurd (omega arith)
 size-smaller p q (suc n) h j l a b =
     elim (cases-lt j n) [
-      inl m ↦
-        (let s = size-smaller p q n (λ k l. h k (omega arith)) j m a b in
-        elim (cases-bool (q n)) [
-          inl e ↦ rw (e, h n (omega arith) e) (omega arith)
-        | inr e ↦ rw e (elim (cases-bool (p n)) [ inl d ↦ rw d (omega arith) | inr d ↦ rw d s ])
-        ])
-    | inr m ↦
-        (let e : j ≡ n = omega arith in
-        let s = size-mono p q n (λ k l. h k (omega arith)) in
-        let a′ : p n ≡ true = rw e at a in
-        let b′ : q n ≡ false = rw e at b in
-        rw (a′, b′) (omega arith))
+      | inl m ↦
+          (let s = size-smaller p q n (λ k l. h k (omega arith)) j m a b in
+          elim (cases-bool (q n)) [
+            | inl e ↦ rw (e, h n (omega arith) e) (omega arith)
+            | inr e ↦ rw e (elim (cases-bool (p n)) [ inl d ↦ rw d (omega arith) | inr d ↦ rw d s ])
+          ])
+      | inr m ↦
+          (let e : j ≡ n = omega arith in
+          let s = size-mono p q n (λ k l. h k (omega arith)) in
+          let a′ : p n ≡ true = rw e at a in
+          let b′ : q n ≡ false = rw e at b in
+          rw (a′, b′) (omega arith))
     ]
 
 -- ---- more values than room for them: two are equal
@@ -102,9 +102,9 @@ squeeze n v x = cond (eqb x n) v x
 squeeze-below : (n v x : ℕ) → v < suc n → x < suc n → (x ≡ v → ⊥) → squeeze n v x < n
 unfolding squeeze
 squeeze-below n v x a b c = elim (cases-eq x n) [
-      inl e ↦ rw (eq-eqb x n e) (let d : v ≡ n → ⊥ = λ q. c (e ∙ sym q) in omega arith)
-    | inr e ↦ rw (ne-eqb x n e) (omega arith)
-    ]
+  | inl e ↦ rw (eq-eqb x n e) (let d : v ≡ n → ⊥ = λ q. c (e ∙ sym q) in omega arith)
+  | inr e ↦ rw (ne-eqb x n e) (omega arith)
+]
 
 squeeze-same : (n v x y : ℕ) → (x ≡ v → ⊥) → (y ≡ v → ⊥) → squeeze n v x ≡ squeeze n v y → x ≡ y
 unfolding squeeze
@@ -114,15 +114,15 @@ pub pigeonhole : (n : ℕ) (g : ℕ → ℕ) → ((k : ℕ) → k ≤ n → g k 
 pigeonhole zero g h = absurd (let z : g 0 < 0 = h 0 (omega arith) in omega arith)
 pigeonhole (suc n) g h =
     elim (find (λ k. eqb (g k) (g (suc n))) (suc n)) [
-      inl f ↦ (f .0, suc n, f .1, omega arith, eqb-true (g (f .0)) (g (suc n)) (f .2))
-    | inr f ↦
-        (let ne : (k : ℕ) → k < suc n → g k ≡ g (suc n) → ⊥ = λ k l. eqb-false (g k) (g (suc n)) (f k l) in
-        let small : (k : ℕ) → k ≤ n → squeeze n (g (suc n)) (g k) < n =
+      | inl f ↦ (f .0, suc n, f .1, omega arith, eqb-true (g (f .0)) (g (suc n)) (f .2))
+      | inr f ↦
+          (let ne : (k : ℕ) → k < suc n → g k ≡ g (suc n) → ⊥ = λ k l. eqb-false (g k) (g (suc n)) (f k l) in
+          let small : (k : ℕ) → k ≤ n → squeeze n (g (suc n)) (g k) < n =
           λ k l. squeeze-below n (g (suc n)) (g k) (h (suc n) (omega arith)) (h k (omega arith)) (ne k (omega arith)) in
-        let w = pigeonhole n (λ k. squeeze n (g (suc n)) (g k)) small in
-        let l1 : w .0 < suc n = omega (arith, w .2, w .3) in
-        let l2 : w .1 < suc n = omega (arith, w .3) in
-        (w .0, w .1, w .2, omega (arith, w .3), squeeze-same n (g (suc n)) (g (w .0)) (g (w .1)) (ne (w .0) l1) (ne (w .1) l2) (w .4)))
+          let w = pigeonhole n (λ k. squeeze n (g (suc n)) (g k)) small in
+          let l1 : w .0 < suc n = omega (arith, w .2, w .3) in
+          let l2 : w .1 < suc n = omega (arith, w .3) in
+          (w .0, w .1, w .2, omega (arith, w .3), squeeze-same n (g (suc n)) (g (w .0)) (g (w .1)) (ne (w .0) l1) (ne (w .1) l2) (w .4)))
     ]
 
 -- ---- steps of a function
@@ -171,8 +171,8 @@ returns-within f k x e zero = (0, omega arith, refl)
 returns-within f k x e (suc m) =
     let w = returns-within f k x e m in
     elim (cases-lt (w .0) k) [
-      inl l ↦ (suc (w .0), l, ap f (w .2))
-    | inr l ↦ (0, omega arith, (let q : k ≡ w .0 = omega (arith, w .1) in ap f (sym e ∙ ap (λ z. steps f (suc z) x) q ∙ w .2)))
+      | inl l ↦ (suc (w .0), l, ap f (w .2))
+      | inr l ↦ (0, omega arith, (let q : k ≡ w .0 = omega (arith, w .1) in ap f (sym e ∙ ap (λ z. steps f (suc z) x) q ∙ w .2)))
     ]
 
 -- ---- a function that maps a set below n into itself, no two to the same

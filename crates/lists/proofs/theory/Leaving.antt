@@ -26,14 +26,14 @@ change-length test value i (x ∷ xs) = ap suc (change-length test value (suc i)
 
 -- the entry at k, which has the number j
 pub change-at : (test : ℕ → Bool) (value : ℕ → ℕ) (i : ℕ) (xs : List ℕ) (k j d : ℕ) → j ≡ k + i → k < length xs →
-  getD (change test value i xs) k d ≡ cond (test j) (value j) (getD xs k d)
+    getD (change test value i xs) k d ≡ cond (test j) (value j) (getD xs k d)
 unfolding change
 change-at test value i [] k j d e l = absurd (omega arith)
 change-at test value i (x ∷ xs) zero j d e l = let q : j ≡ i = omega arith in rw q
 change-at test value i (x ∷ xs) (suc k) j d e l = change-at test value (suc i) xs k j d (omega arith) (omega arith)
 
 pub change-here : (test : ℕ → Bool) (value : ℕ → ℕ) (xs : List ℕ) (k d : ℕ) → k < length xs →
-  getD (change test value 0 xs) k d ≡ cond (test k) (value k) (getD xs k d)
+    getD (change test value 0 xs) k d ≡ cond (test k) (value k) (getD xs k d)
 change-here test value xs k d l = change-at test value 0 xs k k d (omega arith) l
 
 pub gone-change : (ls : Lists) (s : Standing) (i : ℕ) (xs : List ℕ) → gone ls s i xs ≡ change (on-ring ls s) (λ j. 0) i xs
@@ -79,9 +79,9 @@ module _ (ls : Lists) (s : Standing) (L : ℕ → Bool) (z : Sized ls s) (part :
   unfolding left is-in
   left-still i e =
       elim (cases-lt i (length (s .inside))) [
-        inl b ↦ rw (change-here L (λ j. 0) (s .inside) i 0 b, e)
-      | inr b ↦ (let b′ : length (change L (λ j. 0) 0 (s .inside)) ≤ i = rw (change-length L (λ j. 0) 0 (s .inside)) b in
-          rw (getD-past (change L (λ j. 0) 0 (s .inside)) i 0 b′, getD-past (s .inside) i 0 b))
+        | inl b ↦ rw (change-here L (λ j. 0) (s .inside) i 0 b, e)
+        | inr b ↦ (let b′ : length (change L (λ j. 0) 0 (s .inside)) ≤ i = rw (change-length L (λ j. 0) 0 (s .inside)) b in
+            rw (getD-past (change L (λ j. 0) 0 (s .inside)) i 0 b′, getD-past (s .inside) i 0 b))
       ]
 
   left-takes : (i : ℕ) → L i ≡ true → getD (left ls s L .got) i i ≡ points ls s i
@@ -95,22 +95,29 @@ module _ (ls : Lists) (s : Standing) (L : ℕ → Bool) (z : Sized ls s) (part :
   unfolding left
   left-keeps i e =
       elim (cases-lt i (length (s .got))) [
-        inl b ↦ rw (change-here L (points ls s) (s .got) i i b, e)
-      | inr b ↦ (let b′ : length (change L (points ls s) 0 (s .got)) ≤ i = rw (change-length L (points ls s) 0 (s .got)) b in
-          getD-past (change L (points ls s) 0 (s .got)) i i b′ ∙ sym (getD-past (s .got) i i b))
+        | inl b ↦ rw (change-here L (points ls s) (s .got) i i b, e)
+        | inr b ↦ (let b′ : length (change L (points ls s) 0 (s .got)) ≤ i = rw (change-length L (points ls s) 0 (s .got)) b in
+            getD-past (change L (points ls s) 0 (s .got)) i i b′ ∙ sym (getD-past (s .got) i i b))
       ]
 
   pub left-sized : Sized ls (left ls s L)
   unfolding left
   left-sized = record {
-      inside-length = change-length L (λ j. 0) 0 (s .inside) ∙ z .inside-length;
-      got-length = change-length L (points ls s) 0 (s .got) ∙ z .got-length
-    }
+    inside-length = change-length L (λ j. 0) 0 (s .inside) ∙ z .inside-length;
+    got-length = change-length L (points ls s) 0 (s .got) ∙ z .got-length;
+  }
 
   pub left-leaves : ((i : ℕ) → L i ≡ true → L (points ls s i) ≡ true) → ((i j : ℕ) → L i ≡ true → L j ≡ true → points ls s i ≡ points ls s j → i ≡ j) → Leaves ls s (left ls s L) L
   left-leaves into apart = record {
-      sized = left-sized; part = part; into = into; apart = apart; leaves = left-out; still = left-still; takes = left-takes; keeps = left-keeps
-    }
+    sized = left-sized;
+    part = part;
+    into = into;
+    apart = apart;
+    leaves = left-out;
+    still = left-still;
+    takes = left-takes;
+    keeps = left-keeps;
+  }
 
 -- ---- all on rings leave: a round
 
@@ -138,15 +145,15 @@ module _ {ls : Lists} {s s′ : Standing} {L : ℕ → Bool} (V : Leaves ls s s�
   pub rest-in : (i : ℕ) → is-in s′ i ≡ true → (L i ≡ false) × (is-in s i ≡ true)
   rest-in i e =
       elim (cases-bool (L i)) [
-        inl d ↦ absurd (both-ways (is-in s′ i) (V .leaves i d) e)
-      | inr d ↦ (d, sym (V .still i d) ∙ e)
+        | inl d ↦ absurd (both-ways (is-in s′ i) (V .leaves i d) e)
+        | inr d ↦ (d, sym (V .still i d) ∙ e)
       ]
 
   pub rest-out : (i : ℕ) → is-in s i ≡ false → (L i ≡ false) × (is-in s′ i ≡ false)
   rest-out i e =
       elim (cases-bool (L i)) [
-        inl d ↦ absurd (both-ways (is-in s i) e (V .part i d))
-      | inr d ↦ (d, V .still i d ∙ e)
+        | inl d ↦ absurd (both-ways (is-in s i) e (V .part i d))
+        | inr d ↦ (d, V .still i d ∙ e)
       ]
 
   pub rest-fewer : (n j : ℕ) → j < n → L j ≡ true → size (is-in s′) n < size (is-in s) n
@@ -164,8 +171,8 @@ module _ {ls : Lists} {s s′ : Standing} {L : ℕ → Bool} (V : Leaves ls s s�
     both-into : (i : ℕ) → is-in s i ≡ true → is-in s (got′ i) ≡ true
     both-into i e =
         elim (cases-bool (L i)) [
-          inl d ↦ rw (new i d .0) (V .part (points ls s i) (V .into i d))
-        | inr d ↦ rw (old i d e .0) (rest-in (got i) (C .into i (now-in i d e)) .1)
+          | inl d ↦ rw (new i d .0) (V .part (points ls s i) (V .into i d))
+          | inr d ↦ rw (old i d e .0) (rest-in (got i) (C .into i (now-in i d e)) .1)
         ]
 
     clash : (i j : ℕ) → L i ≡ true → L j ≡ false → is-in s j ≡ true → got′ i ≡ got′ j → ⊥
@@ -177,46 +184,52 @@ module _ {ls : Lists} {s s′ : Standing} {L : ℕ → Bool} (V : Leaves ls s s�
     both-apart : (i j : ℕ) → is-in s i ≡ true → is-in s j ≡ true → got′ i ≡ got′ j → i ≡ j
     both-apart i j p q e =
         elim (cases-bool (L i)) [
-          inl a ↦ elim (cases-bool (L j)) [
-            inl b ↦ V .apart i j a b (sym (new i a .0) ∙ e ∙ new j b .0)
-          | inr b ↦ absurd (clash i j a b q e) ]
-        | inr a ↦ elim (cases-bool (L j)) [
-            inl b ↦ absurd (clash j i b a p (sym e))
-          | inr b ↦ C .apart i j (now-in i a p) (now-in j b q) (sym (old i a p .0) ∙ e ∙ old j b q .0) ]
+          | inl a ↦ elim (cases-bool (L j)) [
+            | inl b ↦ V .apart i j a b (sym (new i a .0) ∙ e ∙ new j b .0)
+            | inr b ↦ absurd (clash i j a b q e)
+          ]
+          | inr a ↦ elim (cases-bool (L j)) [
+            | inl b ↦ absurd (clash j i b a p (sym e))
+            | inr b ↦ C .apart i j (now-in i a p) (now-in j b q) (sym (old i a p .0) ∙ e ∙ old j b q .0)
+          ]
         ]
 
     both-together : (i : ℕ) → is-in s i ≡ true → out′ (got′ i) ≡ out′ i
     both-together i e =
         elim (cases-bool (L i)) [
-          inl d ↦ rw (new i d .0) (new (points ls s i) (V .into i d) .1 ∙ sym (new i d .1))
-        | inr d ↦ (let r = rest-in (got i) (C .into i (now-in i d e)) in
-            rw (old i d e .0) (old (got i) (r .0) (r .1) .1 ∙ ap suc (C .together i (now-in i d e)) ∙ sym (old i d e .1)))
+          | inl d ↦ rw (new i d .0) (new (points ls s i) (V .into i d) .1 ∙ sym (new i d .1))
+          | inr d ↦ (let r = rest-in (got i) (C .into i (now-in i d e)) in
+              rw (old i d e .0) (old (got i) (r .0) (r .1) .1 ∙ ap suc (C .together i (now-in i d e)) ∙ sym (old i d e .1)))
         ]
 
     both-dearer : (i t : ℕ) → is-in s i ≡ true → is-in s t ≡ true → rank ls i t < rank ls i (got′ i) → out′ t < out′ i
     both-dearer i t e f l =
         elim (cases-bool (L i)) [
-          inl d ↦ absurd (both-ways (is-in s t) (points-dearest ls s i t (rw (new i d .0) at l)) f)
-        | inr d ↦ elim (cases-bool (L t)) [
-            inl b ↦ (let x = new t b .1 in let y = old i d e .1 in omega arith)
-          | inr b ↦ (let x = old t b f .1 in let y = old i d e .1 in
-              let h = C .dearer i t (now-in i d e) (now-in t b f) (rw (old i d e .0) at l) .1 in omega arith) ]
+          | inl d ↦ absurd (both-ways (is-in s t) (points-dearest ls s i t (rw (new i d .0) at l)) f)
+          | inr d ↦ elim (cases-bool (L t)) [
+            | inl b ↦ (let x = new t b .1 in let y = old i d e .1 in omega arith)
+            | inr b ↦ (let x = old t b f .1 in let y = old i d e .1 in
+                let h = C .dearer i t (now-in i d e) (now-in t b f) (rw (old i d e .0) at l) .1 in omega arith)
+          ]
         ]
 
     pub whole : Certificate (rank ls) (length ls) (is-in s) (is-in s) got′ out′
     whole = record {
-        below = λ i p. (let b = in-below s i p in omega (arith, z .inside-length));
-        part = λ i p. p; into = both-into; apart = both-apart; together = both-together;
-        dearer = λ i t p q l. (q, both-dearer i t p q l)
-      }
+      below = λ i p. (let b = in-below s i p in omega (arith, z .inside-length));
+      part = λ i p. p;
+      into = both-into;
+      apart = both-apart;
+      together = both-together;
+      dearer = λ i t p q l. (q, both-dearer i t p q l);
+    }
 
 -- where nobody is in there is nothing to show
 pub nobody : (ls : Lists) (s : Standing) (got out : ℕ → ℕ) → ((i : ℕ) → is-in s i ≡ false) → Certificate (rank ls) (length ls) (is-in s) (is-in s) got out
 nobody ls s got out f = record {
-    below = λ i p. absurd (both-ways (is-in s i) (f i) p);
-    part = λ i p. p;
-    into = λ i p. absurd (both-ways (is-in s i) (f i) p);
-    apart = λ i j p q e. absurd (both-ways (is-in s i) (f i) p);
-    together = λ i p. absurd (both-ways (is-in s i) (f i) p);
-    dearer = λ i t p q l. absurd (both-ways (is-in s i) (f i) p)
-  }
+  below = λ i p. absurd (both-ways (is-in s i) (f i) p);
+  part = λ i p. p;
+  into = λ i p. absurd (both-ways (is-in s i) (f i) p);
+  apart = λ i j p q e. absurd (both-ways (is-in s i) (f i) p);
+  together = λ i p. absurd (both-ways (is-in s i) (f i) p);
+  dearer = λ i t p q l. absurd (both-ways (is-in s i) (f i) p);
+}

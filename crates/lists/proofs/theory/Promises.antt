@@ -39,30 +39,30 @@ result-own ls i l = own-or-dearer (certificate ls) i (lt-ltb i (length ls) l)
 
 -- whoever shares a group's stands among the group, none of them worse off, gives each of them the result
 pub result-unbettered : (ls : Lists) (group : ℕ → Bool) (share : ℕ → ℕ) →
-  ((i : ℕ) → i < length ls → group i ≡ true → (share i < length ls) × (group (share i) ≡ true)) →
-  ((i j : ℕ) → i < length ls → j < length ls → group i ≡ true → group j ≡ true → share i ≡ share j → i ≡ j) →
-  ((i : ℕ) → i < length ls → group i ≡ true → rank ls i (share i) ≤ rank ls i (result ls i)) →
-  (i : ℕ) → i < length ls → group i ≡ true → share i ≡ result ls i
+    ((i : ℕ) → i < length ls → group i ≡ true → (share i < length ls) × (group (share i) ≡ true)) →
+    ((i j : ℕ) → i < length ls → j < length ls → group i ≡ true → group j ≡ true → share i ≡ share j → i ≡ j) →
+    ((i : ℕ) → i < length ls → group i ≡ true → rank ls i (share i) ≤ rank ls i (result ls i)) →
+    (i : ℕ) → i < length ls → group i ≡ true → share i ≡ result ls i
 result-unbettered ls group share within apart well i l g =
     let G : ℕ → Bool = λ x. group x && ltb x (length ls) in
     let parts : (x : ℕ) → G x ≡ true → (group x ≡ true) × (x < length ls) =
-      λ x p. (let h = and-parts (group x) (ltb x (length ls)) p in (h .0, ltb-true x (length ls) (h .1))) in
+    λ x p. (let h = and-parts (group x) (ltb x (length ls)) p in (h .0, ltb-true x (length ls) (h .1))) in
     let T : Turning (length ls) G share = record {
-        below = λ x p. parts x p .1;
-        into = λ x p. (let h = parts x p in let w = within x (h .1) (h .0) in
+      below = λ x p. parts x p .1;
+      into = λ x p. (let h = parts x p in let w = within x (h .1) (h .0) in
           and-from (group (share x)) (ltb (share x) (length ls)) (w .1) (lt-ltb (share x) (length ls) (w .0)));
-        apart = λ x y p q. apart x y (parts x p .1) (parts y q .1) (parts x p .0) (parts y q .0)
-      } in
+      apart = λ x y p q. apart x y (parts x p .1) (parts y q .1) (parts x p .0) (parts y q .0);
+    } in
     no-group-betters (rank-tie ls) (certificate ls) G share T (λ x p. and-parts (group x) (ltb x (length ls)) p .1) (λ x p. well x (parts x p .1) (parts x p .0))
-      i (and-from (group i) (ltb i (length ls)) g (lt-ltb i (length ls) l))
+    i (and-from (group i) (ltb i (length ls)) g (lt-ltb i (length ls) l))
 
 pub result-truthful : (ls : Lists) (i : ℕ) (honest other : List ℕ) → i < length ls →
-  rank-in honest i (result (set ls i honest) i) ≤ rank-in honest i (result (set ls i other) i)
+    rank-in honest i (result (set ls i honest) i) ≤ rank-in honest i (result (set ls i other) i)
 result-truthful ls i honest other l =
     let C = certificate-of (set ls i honest) (length ls) (length-set ls i honest) in
     let D = certificate-of (set ls i other) (length ls) (length-set ls i other) in
     let h = no-gain (rank-tie (set ls i other)) C D i (lt-ltb i (length ls) l)
-      (λ j t ne. rank-set-other ls i other j t ne ∙ sym (rank-set-other ls i honest j t ne)) in
+    (λ j t ne. rank-set-other ls i other j t ne ∙ sym (rank-set-other ls i honest j t ne)) in
     let a = rank-set-same ls i honest (result (set ls i honest) i) l in
     let b = rank-set-same ls i honest (result (set ls i other) i) l in
     omega arith

@@ -62,8 +62,8 @@ unfolding rank-in
 rank-place [] i t l = absurd (omega arith)
 rank-place (u ∷ us) i t l =
     elim (cases-bool (eqb u t)) [
-      inl e ↦ rw e (eqb-true u t e)
-    | inr e ↦ rw e (let l′ : suc (rank-in us i t) < suc (length us) = rw e at l in rank-place us i t (omega arith))
+      | inl e ↦ rw e (eqb-true u t e)
+      | inr e ↦ rw e (let l′ : suc (rank-in us i t) < suc (length us) = rw e at l in rank-place us i t (omega arith))
     ]
 
 -- the stand at a place has at most that rank
@@ -82,11 +82,11 @@ rank-top (u ∷ us) [] i g t e l = absurd (let z : 0 ≡ suc (length (take (cond
 rank-top (u ∷ us) (v ∷ vs) i g t e l =
     let same : v ≡ u = ap (λ xs. getD xs 0 0) e in
     elim (cases-bool (eqb u g)) [
-      inl d ↦ absurd (let d′ : eqb v g ≡ true = rw same d in let z : rank-in (v ∷ vs) i t < 0 = rw d′ at l in omega arith)
-    | inr d ↦
-        (let d′ : eqb v g ≡ false = rw same d in
-        let e′ : take (suc (rank-in us i g)) vs ≡ take (suc (rank-in us i g)) us = ap (drop 1) (rw d at e) in
-        let h = rank-top us vs i g t e′ in grind arith)
+      | inl d ↦ absurd (let d′ : eqb v g ≡ true = rw same d in let z : rank-in (v ∷ vs) i t < 0 = rw d′ at l in omega arith)
+      | inr d ↦
+          (let d′ : eqb v g ≡ false = rw same d in
+          let e′ : take (suc (rank-in us i g)) vs ≡ take (suc (rank-in us i g)) us = ap (drop 1) (rw d at e) in
+          let h = rank-top us vs i g t e′ in grind arith)
     ]
 
 -- ---- pointing
@@ -103,12 +103,12 @@ unfolding first-in rank-in
 first-in-dearest s [] i t l = absurd (let z : cond (eqb i t) 0 1 < 0 = rw (eq-eqb i i refl) at l in omega arith)
 first-in-dearest s (u ∷ us) i t l =
     elim (cases-bool (is-in s u)) [
-      inl d ↦ absurd (let z : rank-in (u ∷ us) i t < rank-in (u ∷ us) i u = rw d at l in
-        let z′ : rank-in (u ∷ us) i t < 0 = rw (eq-eqb u u refl) at z in omega arith)
-    | inr d ↦
-        (let z : rank-in (u ∷ us) i t < rank-in (u ∷ us) i (first-in s us i) = rw d at l in
-        let h = first-in-dearest s us i t in
-        elim (cases-eq u t) [ inl e ↦ rw (← e) d | inr e ↦ h (let ne = ne-eqb u t e in grind arith) ])
+      | inl d ↦ absurd (let z : rank-in (u ∷ us) i t < rank-in (u ∷ us) i u = rw d at l in
+          let z′ : rank-in (u ∷ us) i t < 0 = rw (eq-eqb u u refl) at z in omega arith)
+      | inr d ↦
+          (let z : rank-in (u ∷ us) i t < rank-in (u ∷ us) i (first-in s us i) = rw d at l in
+          let h = first-in-dearest s us i t in
+          elim (cases-eq u t) [ inl e ↦ rw (← e) d | inr e ↦ h (let ne = ne-eqb u t e in grind arith) ])
     ]
 
 pub points-in : (ls : Lists) (s : Standing) (i : ℕ) → is-in s i ≡ true → is-in s (points ls s i) ≡ true
@@ -124,10 +124,13 @@ pub points-is : (ls : Lists) (s : Standing) (i t : ℕ) → is-in s i ≡ true �
 points-is ls s i t a b f =
     let p = points-in ls s i a in
     let own : rank ls i (points ls s i) ≤ rank ls i i = elim (cases-lt (rank ls i i) (rank ls i (points ls s i))) [
-      inl l ↦ absurd (both-ways (is-in s i) (points-dearest ls s i i l) a) | inr l ↦ l ] in
+      | inl l ↦ absurd (both-ways (is-in s i) (points-dearest ls s i i l) a)
+      | inr l ↦ l
+    ] in
     elim (cases-order (rank ls i (points ls s i)) (rank ls i t)) [
-      inl e ↦ rank-tie ls i (points ls s i) t own e
-    | inr d ↦ elim d [
-        inl l ↦ absurd (f (points ls s i) p l)
-      | inr l ↦ absurd (both-ways (is-in s t) (points-dearest ls s i t l) b) ]
+      | inl e ↦ rank-tie ls i (points ls s i) t own e
+      | inr d ↦ elim d [
+        | inl l ↦ absurd (f (points ls s i) p l)
+        | inr l ↦ absurd (both-ways (is-in s t) (points-dearest ls s i t l) b)
+      ]
     ]

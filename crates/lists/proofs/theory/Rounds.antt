@@ -49,16 +49,16 @@ module _ (ls : Lists) where
     in-earlier zero j i l e = let q : j ≡ 0 = omega arith in rw q e
     in-earlier (suc k) j i l e =
         elim (cases-lt k j) [
-          inl m ↦ (let q : j ≡ suc k = omega arith in rw q e)
-        | inr m ↦ in-earlier k j i m (rest-in (rounds-leave k) i e .1)
+          | inl m ↦ (let q : j ≡ suc k = omega arith in rw q e)
+          | inr m ↦ in-earlier k j i m (rest-in (rounds-leave k) i e .1)
         ]
 
     -- whoever is out stays out
     pub out-later : (k j i : ℕ) → j ≤ k → is-in (rounds-from ls s j) i ≡ false → is-in (rounds-from ls s k) i ≡ false
     out-later k j i l e =
         elim (cases-bool (is-in (rounds-from ls s k) i)) [
-          inl d ↦ absurd (both-ways (is-in (rounds-from ls s j) i) e (in-earlier k j i l d))
-        | inr d ↦ d
+          | inl d ↦ absurd (both-ways (is-in (rounds-from ls s j) i) e (in-earlier k j i l d))
+          | inr d ↦ d
         ]
 
     -- and keeps what it has
@@ -66,8 +66,8 @@ module _ (ls : Lists) where
     got-later zero j i l e = let q : j ≡ 0 = omega arith in rw q
     got-later (suc k) j i l e =
         elim (cases-lt k j) [
-          inl m ↦ (let q : j ≡ suc k = omega arith in rw q)
-        | inr m ↦ rounds-leave k .keeps i (rest-out (rounds-leave k) i (out-later k j i m e) .0) ∙ got-later k j i m e
+          | inl m ↦ (let q : j ≡ suc k = omega arith in rw q)
+          | inr m ↦ rounds-leave k .keeps i (rest-out (rounds-leave k) i (out-later k j i m e) .0) ∙ got-later k j i m e
         ]
 
     -- those on rings are out after the round, with what they pointed to
@@ -78,8 +78,8 @@ module _ (ls : Lists) where
     pub leaves-ring : (k i : ℕ) → is-in (rounds-from ls s k) i ≡ true → is-in (rounds-from ls s (suc k)) i ≡ false → on-ring ls (rounds-from ls s k) i ≡ true
     leaves-ring k i a b =
         elim (cases-bool (on-ring ls (rounds-from ls s k) i)) [
-          inl d ↦ d
-        | inr d ↦ absurd (both-ways (is-in (rounds-from ls s k) i) (sym (rounds-leave k .still i d) ∙ b) a)
+          | inl d ↦ d
+          | inr d ↦ absurd (both-ways (is-in (rounds-from ls s k) i) (sym (rounds-leave k .still i d) ∙ b) a)
         ]
 
     -- in every round before nobody is in, somebody goes out
@@ -95,19 +95,20 @@ module _ (ls : Lists) where
   round-size s k z h =
       let V = round-leaves ls s z in
       elim (find (is-in (round ls s)) (length ls)) [
-        inl f ↦ (let l : length (s .inside) ≤ length ls = omega (arith, z .inside-length) in
-          let w = somebody-on-ring ls s l (f .0) (rest-in V (f .0) (f .2) .1) in
-          let b : w .0 < length ls = (let b = in-below s (w .0) (ring-in ls s (w .0) (w .1)) in omega (arith, z .inside-length)) in
-          let m = rest-fewer V (length ls) (w .0) b (w .1) in omega arith)
-      | inr f ↦ (let m = size-mono (λ i. false) (is-in (round ls s)) (length ls) (λ i l e. absurd (both-ways (is-in (round ls s) i) (f i l) e)) in
-          let o = size-false (length ls) in omega arith)
+        | inl f ↦ (let l : length (s .inside) ≤ length ls = omega (arith, z .inside-length) in
+            let w = somebody-on-ring ls s l (f .0) (rest-in V (f .0) (f .2) .1) in
+            let b : w .0 < length ls = (let b = in-below s (w .0) (ring-in ls s (w .0) (w .1)) in omega (arith, z .inside-length)) in
+            let m = rest-fewer V (length ls) (w .0) b (w .1) in omega arith)
+        | inr f ↦ (let m = size-mono (λ i. false) (is-in (round ls s)) (length ls) (λ i l e. absurd (both-ways (is-in (round ls s) i) (f i l) e)) in
+            let o = size-false (length ls) in omega arith)
       ]
 
   pub rounds-end : (k : ℕ) (s : Standing) → Sized ls s → size (is-in s) (length ls) ≤ k → (i : ℕ) → is-in (rounds-from ls s k) i ≡ false
   rounds-end zero s z h i =
       rw (rounds-none s) (elim (cases-lt i (length ls)) [
-        inl l ↦ size-none (is-in s) (length ls) h i l
-      | inr l ↦ out-past s i (omega (arith, z .inside-length)) ])
+        | inl l ↦ size-none (is-in s) (length ls) h i l
+        | inr l ↦ out-past s i (omega (arith, z .inside-length))
+      ])
   rounds-end (suc k) s z h i = rw (← (rounds-later s k)) (rounds-end k (round ls s) (round-sized s z) (round-size s k z h) i)
 
   -- as many rounds as there are traders are enough, whoever takes part
@@ -117,7 +118,7 @@ module _ (ls : Lists) where
   -- ---- they give a certificate
 
   pub rounds-certificate : (k : ℕ) (s : Standing) → Sized ls s → size (is-in s) (length ls) ≤ k →
-    Certificate (rank ls) (length ls) (is-in s) (is-in s) (λ i. getD (rounds-from ls s k .got) i i) (out-from ls s k)
+      Certificate (rank ls) (length ls) (is-in s) (is-in s) (λ i. getD (rounds-from ls s k .got) i i) (out-from ls s k)
   unfolding out-from
   rounds-certificate zero s z h = nobody ls s (λ i. getD (rounds-from ls s 0 .got) i i) (λ i. 0) (λ i. rw (rounds-none s) at (rounds-end zero s z h i))
   rounds-certificate (suc k) s z h =
@@ -125,8 +126,8 @@ module _ (ls : Lists) where
       let C = rounds-certificate k (round ls s) (V .sized) (round-size s k z h) in
       let same = rounds-later s k in
       whole V z C
-        (λ i m. (ap (λ t. getD (t .got) i i) (sym same) ∙ got-later (round ls s) (V .sized) k 0 i (omega arith) (rw (rounds-none (round ls s)) (V .leaves i m)) ∙ ap (λ t. getD (t .got) i i) (rounds-none (round ls s)) ∙ V .takes i m, rw m))
-        (λ i m p. (ap (λ t. getD (t .got) i i) (sym same), rw m))
+      (λ i m. (ap (λ t. getD (t .got) i i) (sym same) ∙ got-later (round ls s) (V .sized) k 0 i (omega arith) (rw (rounds-none (round ls s)) (V .leaves i m)) ∙ ap (λ t. getD (t .got) i i) (rounds-none (round ls s)) ∙ V .takes i m, rw m))
+      (λ i m p. (ap (λ t. getD (t .got) i i) (sym same), rw m))
 
   -- ---- the round in which a trader goes out
 
@@ -150,8 +151,8 @@ module _ (ls : Lists) where
   out-in (suc k) (suc m) s i z l p e =
       let e′ : is-in (rounds-from ls (round ls s) k) i ≡ false = rw (rounds-later s k) e in
       elim (cases-bool (on-ring ls s i)) [
-        inl d ↦ rw d (omega arith)
-      | inr d ↦ rw d (let h = out-in k m (round ls s) i (round-sized s z) (omega arith) (round-leaves ls s z .still i d ∙ p) e′ in omega arith)
+        | inl d ↦ rw d (omega arith)
+        | inr d ↦ rw d (let h = out-in k m (round ls s) i (round-sized s z) (omega arith) (round-leaves ls s z .still i d ∙ p) e′ in omega arith)
       ]
 
   module _ (s : Standing) (z : Sized ls s) where
@@ -171,16 +172,16 @@ module _ (ls : Lists) where
     pub in-bound : (k i : ℕ) → is-in (rounds-from ls s k) i ≡ true → k < length ls
     in-bound k i e =
         elim (cases-lt k (length ls)) [
-          inl l ↦ l
-        | inr l ↦ absurd (both-ways (is-in (rounds-from ls s k) i) (out-later s z k (length ls) i l (all-out s z i)) e)
+          | inl l ↦ l
+          | inr l ↦ absurd (both-ways (is-in (rounds-from ls s k) i) (out-later s z k (length ls) i l (all-out s z i)) e)
         ]
 
     -- Traders who each got the next one's stand and the last the first one's, all in after k rounds, when the holders of all
     -- stands dearer to them are out: they are a ring of round k.
     pub closes : (k : ℕ) (got : ℕ → ℕ) (i p : ℕ) → p < length ls → steps got (suc p) i ≡ i →
-      ((m : ℕ) → m ≤ suc p → is-in (rounds-from ls s k) (steps got m i) ≡ true) →
-      ((m t : ℕ) → m < suc p → is-in (rounds-from ls s k) t ≡ true → rank ls (steps got m i) t < rank ls (steps got m i) (steps got (suc m) i) → ⊥) →
-      on-ring ls (rounds-from ls s k) i ≡ true
+        ((m : ℕ) → m ≤ suc p → is-in (rounds-from ls s k) (steps got m i) ≡ true) →
+        ((m t : ℕ) → m < suc p → is-in (rounds-from ls s k) t ≡ true → rank ls (steps got m i) t < rank ls (steps got m i) (steps got (suc m) i) → ⊥) →
+        on-ring ls (rounds-from ls s k) i ≡ true
     closes k got i p l e inside dearest =
         ring-from ls (rounds-from ls s k) i p (inside 0 (omega arith)) l (same (suc p) (omega arith) ∙ e)
       where
@@ -216,8 +217,8 @@ module _ (ls : Lists) where
     pub in-until : (k i : ℕ) → is-in s i ≡ true → k ≤ own-out i → is-in (rounds-from ls s k) i ≡ true
     in-until k i p l =
         elim (cases-bool (is-in (rounds-from ls s k) i)) [
-          inl e ↦ e
-        | inr e ↦ absurd (let b = out-bound i p in let h = out-in k (length ls) s i z (omega arith) p e in omega arith)
+          | inl e ↦ e
+          | inr e ↦ absurd (let b = out-bound i p in let h = out-in k (length ls) s i z (omega arith) p e in omega arith)
         ]
 
     pub out-of-ring : (k i : ℕ) → on-ring ls (rounds-from ls s k) i ≡ true → own-out i ≡ k
@@ -235,11 +236,11 @@ module _ (ls : Lists) where
 
     -- A trader whose ring is in after k rounds goes out in round k, if the holders of all stands dearer to the ring's members are out.
     pub out-when : (k i p : ℕ) → is-in s i ≡ true → k ≤ own-out i → p < length ls → steps own-got (suc p) i ≡ i →
-      ((m t : ℕ) → m < suc p → is-in (rounds-from ls s k) t ≡ true → rank ls (steps own-got m i) t < rank ls (steps own-got m i) (steps own-got (suc m) i) → ⊥) →
-      own-out i ≡ k
+        ((m t : ℕ) → m < suc p → is-in (rounds-from ls s k) t ≡ true → rank ls (steps own-got m i) t < rank ls (steps own-got m i) (steps own-got (suc m) i) → ⊥) →
+        own-out i ≡ k
     out-when k i p e l b back dearest =
         out-of-ring k i (closes k own-got i p b back
-          (λ m d. (let h = own-ring-out i e m in in-until k (steps own-got m i) (h .0) (omega (arith, h .1)))) dearest)
+        (λ m d. (let h = own-ring-out i e m in in-until k (steps own-got m i) (h .0) (omega (arith, h .1)))) dearest)
 
     -- ---- least rounds
 
@@ -256,9 +257,9 @@ module _ (ls : Lists) where
           let w = orbit (turns own-certificate) i p in
           let same : (m : ℕ) → out (steps own-got m i) ≡ r = λ m. ring-level i p m ∙ o in
           elim (cases-lt (own-out i) r) [
-            inl l ↦ omega arith
-          | inr l ↦
-              (let h = out-when r i (w .0) p l (w .1) (w .2) (λ m t b e d. (let x = own-ring-out i p m .0 in
+            | inl l ↦ omega arith
+            | inr l ↦
+                (let h = out-when r i (w .0) p l (w .1) (w .2) (λ m t b e d. (let x = own-ring-out i p m .0 in
                 let f = C .dearer (steps own-got m i) t x (rw (rounds-none s) at (in-earlier s z r 0 t (omega arith) e)) (rw (own-unique C (steps own-got m i) x) d) in
                 let g = ih t (f .0) (omega (arith, f .1, same m)) in
                 let y = in-since r t e in omega (arith, f .1, same m))) in omega arith)
@@ -268,8 +269,8 @@ module _ (ls : Lists) where
       least-below zero i p l = absurd (omega arith)
       least-below (suc r) i p l =
           elim (cases-lt (out i) r) [
-            inl m ↦ least-below r i p m
-          | inr m ↦ (let h = least-step r (least-below r) i p (omega arith) in omega arith)
+            | inl m ↦ least-below r i p m
+            | inr m ↦ (let h = least-step r (least-below r) i p (omega arith) in omega arith)
           ]
 
       -- a certificate has for nobody a lower round than the rounds themselves
@@ -285,25 +286,25 @@ module _ (ls : Lists) where
         omega (arith, h .1)
 
     pub ring-just-later : (i r : ℕ) → is-in s i ≡ true → own-out i ≡ suc r →
-      (m : ℕ) × (t : ℕ) × (is-in s t ≡ true) × (rank ls (steps own-got m i) t < rank ls (steps own-got m i) (steps own-got (suc m) i)) × (own-out t ≡ r)
+        (m : ℕ) × (t : ℕ) × (is-in s t ≡ true) × (rank ls (steps own-got m i) t < rank ls (steps own-got m i) (steps own-got (suc m) i)) × (own-out t ≡ r)
     ring-just-later i r p o =
         let w = orbit (turns own-certificate) i p in
         let test : ℕ → ℕ → Bool = λ m t. is-in s t && (ltb (rank ls (steps own-got m i) t) (rank ls (steps own-got m i) (steps own-got (suc m) i)) && eqb (own-out t) r) in
         elim (find-either {A = λ m. (t : ℕ) × (t < length ls) × (test m t ≡ true)} {B = λ m. (t : ℕ) → t < length ls → test m t ≡ false} (suc (w .0)) (λ m. find (test m) (length ls))) [
-          inl f ↦
-            (let m = f .0 in let t = f .2 .0 in
-            let a = and-parts (is-in s t) (ltb (rank ls (steps own-got m i) t) (rank ls (steps own-got m i) (steps own-got (suc m) i)) && eqb (own-out t) r) (f .2 .2) in
-            let b = and-parts (ltb (rank ls (steps own-got m i) t) (rank ls (steps own-got m i) (steps own-got (suc m) i))) (eqb (own-out t) r) (a .1) in
-            (m, t, a .0, ltb-true (rank ls (steps own-got m i) t) (rank ls (steps own-got m i) (steps own-got (suc m) i)) (b .0), eqb-true (own-out t) r (b .1)))
-        | inr f ↦ absurd
-            (let h = out-when r i (w .0) p (omega arith) (w .1) (w .2) (λ m t b e d.
+          | inl f ↦
+              (let m = f .0 in let t = f .2 .0 in
+              let a = and-parts (is-in s t) (ltb (rank ls (steps own-got m i) t) (rank ls (steps own-got m i) (steps own-got (suc m) i)) && eqb (own-out t) r) (f .2 .2) in
+              let b = and-parts (ltb (rank ls (steps own-got m i) t) (rank ls (steps own-got m i) (steps own-got (suc m) i))) (eqb (own-out t) r) (a .1) in
+              (m, t, a .0, ltb-true (rank ls (steps own-got m i) t) (rank ls (steps own-got m i) (steps own-got (suc m) i)) (b .0), eqb-true (own-out t) r (b .1)))
+          | inr f ↦ absurd
+              (let h = out-when r i (w .0) p (omega arith) (w .1) (w .2) (λ m t b e d.
               (let q : is-in s t ≡ true = rw (rounds-none s) at (in-earlier s z r 0 t (omega arith) e) in
               let x = ring-later i p m t q d in
               let y = in-since r t e in
               both-ways (test m t) (f m b t (own-certificate .below t q))
-                (and-from (is-in s t) (ltb (rank ls (steps own-got m i) t) (rank ls (steps own-got m i) (steps own-got (suc m) i)) && eqb (own-out t) r) q
-                  (and-from (ltb (rank ls (steps own-got m i) t) (rank ls (steps own-got m i) (steps own-got (suc m) i))) (eqb (own-out t) r)
-                    (lt-ltb (rank ls (steps own-got m i) t) (rank ls (steps own-got m i) (steps own-got (suc m) i)) d) (eq-eqb (own-out t) r (omega arith)))))) in omega arith)
+              (and-from (is-in s t) (ltb (rank ls (steps own-got m i) t) (rank ls (steps own-got m i) (steps own-got (suc m) i)) && eqb (own-out t) r) q
+              (and-from (ltb (rank ls (steps own-got m i) t) (rank ls (steps own-got m i) (steps own-got (suc m) i))) (eqb (own-out t) r)
+              (lt-ltb (rank ls (steps own-got m i) t) (rank ls (steps own-got m i) (steps own-got (suc m) i)) d) (eq-eqb (own-out t) r (omega arith)))))) in omega arith)
         ]
 
   -- ---- how many rounds
@@ -327,5 +328,5 @@ module _ (ls : Lists) where
 
   -- the first of the rounds up to k after which nobody is in
   pub first-empty : (s : Standing) (k : ℕ) → none-in (rounds-from ls s k .inside) ≡ true →
-    (j : ℕ) × (j ≤ k) × (none-in (rounds-from ls s j .inside) ≡ true) × ((h : ℕ) → h < j → none-in (rounds-from ls s h .inside) ≡ false)
+      (j : ℕ) × (j ≤ k) × (none-in (rounds-from ls s j .inside) ≡ true) × ((h : ℕ) → h < j → none-in (rounds-from ls s h .inside) ≡ false)
   first-empty s k e = least-true (λ j. none-in (rounds-from ls s j .inside)) k e

@@ -16,7 +16,7 @@ pub take-ring-leaves : (ls : Lists) (s : Standing) (j : ℕ) → Sized ls s → 
 unfolding take-ring left
 take-ring-leaves ls s j z e =
     left-leaves ls s (same-ring ls s j) z (λ i m. ring-in ls s i (same-ring-on ls s j i e m)) (λ i. same-ring-next ls s j i e)
-      (λ i k m n. ring-apart ls s i k (same-ring-on ls s j i e m) (same-ring-on ls s j k e n))
+    (λ i k m n. ring-apart ls s i k (same-ring-on ls s j i e m) (same-ring-on ls s j k e n))
 
 -- whoever is out keeps what it has
 pub run-keeps : (ls : Lists) (end s : Standing) → Run ls end s → Sized ls s → (i : ℕ) → is-in s i ≡ false → getD (end .got) i i ≡ getD (s .got) i i
@@ -32,12 +32,12 @@ run-out ls end s (over f) i = 0
 run-out ls end s (ring t j on r) i = cond (same-ring ls t j i) 0 (suc (run-out ls end (take-ring ls t j) r i))
 
 pub run-certificate : (ls : Lists) (end s : Standing) (r : Run ls end s) → Sized ls s →
-  Certificate (rank ls) (length ls) (is-in s) (is-in s) (λ i. getD (end .got) i i) (run-out ls end s r)
+    Certificate (rank ls) (length ls) (is-in s) (is-in s) (λ i. getD (end .got) i i) (run-out ls end s r)
 unfolding run-out
 run-certificate ls end s (over f) z = nobody ls end (λ i. getD (end .got) i i) (λ i. 0) f
 run-certificate ls end s (ring t j on r) z =
     let V = take-ring-leaves ls t j z on in
     let C = run-certificate ls end (take-ring ls t j) r (V .sized) in
     whole V z C
-      (λ i m. (run-keeps ls end (take-ring ls t j) r (V .sized) i (V .leaves i m) ∙ V .takes i m, rw m))
-      (λ i m p. (refl, rw m))
+    (λ i m. (run-keeps ls end (take-ring ls t j) r (V .sized) i (V .leaves i m) ∙ V .takes i m, rw m))
+    (λ i m p. (refl, rw m))

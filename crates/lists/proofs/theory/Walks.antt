@@ -21,8 +21,8 @@ pub in-below : (s : Standing) (i : ℕ) → is-in s i ≡ true → i < length (s
 unfolding is-in
 in-below s i e =
     elim (cases-lt i (length (s .inside))) [
-      inl l ↦ l
-    | inr l ↦ absurd (both-ways (eqb (getD (s .inside) i 0) 1) (rw (getD-past (s .inside) i 0 l)) e)
+      | inl l ↦ l
+      | inr l ↦ absurd (both-ways (eqb (getD (s .inside) i 0) 1) (rw (getD-past (s .inside) i 0 l)) e)
     ]
 
 pub out-past : (s : Standing) (i : ℕ) → length (s .inside) ≤ i → is-in s i ≡ false
@@ -72,11 +72,12 @@ module _ (ls : Lists) (s : Standing) where
   reaches-from j i zero k l e = absurd (omega arith)
   reaches-from j i (suc m) k l e =
       elim (cases-bool (eqb (walk ls s (suc m) j) i)) [
-        inl d ↦ rw d
-      | inr d ↦ rw d (elim (cases-lt k m) [
-          inl b ↦ reaches-from j i m k b e
-        | inr b ↦ absurd (let q : m ≡ k = omega arith in
-            both-ways (eqb (walk ls s (suc m) j) i) d (eq-eqb (walk ls s (suc m) j) i (walk-steps (suc m) j ∙ rw q e))) ])
+        | inl d ↦ rw d
+        | inr d ↦ rw d (elim (cases-lt k m) [
+          | inl b ↦ reaches-from j i m k b e
+          | inr b ↦ absurd (let q : m ≡ k = omega arith in
+              both-ways (eqb (walk ls s (suc m) j) i) d (eq-eqb (walk ls s (suc m) j) i (walk-steps (suc m) j ∙ rw q e)))
+        ])
       ]
 
   pub reaches-to : (j i m : ℕ) → reaches ls s j i m ≡ true → (k : ℕ) × (k < m) × (steps (points ls s) (suc k) j ≡ i)
@@ -84,8 +85,8 @@ module _ (ls : Lists) (s : Standing) where
   reaches-to j i zero e = absurd (both-ways true (sym e) refl)
   reaches-to j i (suc m) e =
       elim (cases-bool (eqb (walk ls s (suc m) j) i)) [
-        inl d ↦ (m, omega arith, sym (walk-steps (suc m) j) ∙ eqb-true (walk ls s (suc m) j) i d)
-      | inr d ↦ (let w = reaches-to j i m (rw d at e) in (w .0, omega (arith, w .1), w .2))
+        | inl d ↦ (m, omega arith, sym (walk-steps (suc m) j) ∙ eqb-true (walk ls s (suc m) j) i d)
+        | inr d ↦ (let w = reaches-to j i m (rw d at e) in (w .0, omega (arith, w .1), w .2))
       ]
 
   pub comes-back-reaches : (i m : ℕ) → comes-back ls s i m ≡ reaches ls s i i m
@@ -124,6 +125,10 @@ module _ (ls : Lists) (s : Standing) where
 
   pub ring-apart : (i j : ℕ) → on-ring ls s i ≡ true → on-ring ls s j ≡ true → points ls s i ≡ points ls s j → i ≡ j
   ring-apart i j a b e = returns-apart (points ls s) i j (ring-return i a) (ring-return j b) e
+
+  -- whoever is in points to the stand of a trader
+  pub points-below : length (s .inside) ≤ length ls → (i : ℕ) → is-in s i ≡ true → points ls s i < length ls
+  points-below l i e = let b = in-below s (points ls s i) (points-in ls s i e) in omega arith
 
   -- where somebody is in, somebody is on a ring
   pub somebody-on-ring : length (s .inside) ≤ length ls → (i : ℕ) → is-in s i ≡ true → (j : ℕ) × (on-ring ls s j ≡ true)
