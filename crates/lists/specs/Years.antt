@@ -1,8 +1,8 @@
 -- Years worked by hand: the lists, what each trader got, and the number of rounds.
 use mathlib.Core.Path.{_≡_}
-use mathlib.Core.Bool.{Bool, true}
+use mathlib.Core.Bool.{true}
 use mathlib.Core.List.{List, [], _∷_}
-use Prim.Native.Nat.{ℕ, suc, _<_}
+use Prim.Native.Nat.{ℕ, _<_}
 use lib.ListN.{length, getD}
 use Rattle.lists.specs.Trade.{Lists, result, round-count}
 use Rattle.lists.specs.Promise.{rank}

@@ -1,13 +1,12 @@
 -- Certificates: a stand and a round for each of a set of traders, by which the exchange can be checked. They are over any ranks.
 use mathlib.Core.Path.{_≡_, refl, sym, ap, _∙_}
-use mathlib.Core.Bool.{Bool, true, false, cond, _&&_, not}
-use mathlib.Core.Logic.{_⊎_, inl, inr}
-use Prim.Native.Nat.{ℕ, zero, suc, _+_, _≤_, _<_}
+use mathlib.Core.Bool.{Bool, true}
+use mathlib.Core.Logic.{inl, inr}
+use Prim.Native.Nat.{ℕ, zero, suc, _≤_, _<_}
 use native.Mathlib.Omega.{arith}
 use lib.Dec.{eqb, ltb}
-use Rattle.std.proofs.shelf.Tests.{cases-bool, cases-eq, cases-lt, cases-order, eqb-true, eq-eqb, ltb-true, lt-ltb, and-parts, and-from, both-ways}
-use Rattle.lists.specs.Certificate.{steps}
-use Rattle.lists.proofs.theory.Finite.{before, level, Turning, preimage, ring-mono, stays, orbit}
+use Rattle.std.proofs.shelf.Tests.{cases-lt, eqb-true, eq-eqb, ltb-true, lt-ltb, and-parts, and-from}
+use Rattle.lists.proofs.theory.Finite.{before, level, Turning, preimage, ring-mono}
 use Rattle.lists.proofs.theory.Ranks.{Tieless}
 
 -- P are some of the participants S, all below n, and every stand that is dearer to one of P than the one it got, if its

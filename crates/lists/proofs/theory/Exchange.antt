@@ -1,22 +1,21 @@
 -- The exchange in which all traders take part: its rounds, results and counts.
-use mathlib.Core.Path.{_≡_, refl, sym, ap, subst, fun-ext, _∙_}
-use mathlib.Core.Bool.{Bool, true, false, cond, _&&_}
+use mathlib.Core.Path.{_≡_, sym, ap, subst, fun-ext, _∙_}
+use mathlib.Core.Bool.{Bool, true, false, cond}
 use mathlib.Core.Logic.{_⊎_, inl, inr}
-use mathlib.Core.List.{List, [], _∷_}
 use Prim.Native.Nat.{ℕ, zero, suc, _+_, _-_, _≤_, _<_}
 use native.Mathlib.Omega.{arith}
-use lib.Dec.{eqb, ltb}
-use lib.ListN.{length, getD, replicate, length-replicate, getD-replicate}
-use Rattle.std.proofs.shelf.Tests.{cases-bool, cases-lt, cond-true, cond-false, eq-eqb, ltb-true, lt-ltb, le-ltb, both-ways}
+use lib.Dec.{ltb}
+use lib.ListN.{length, getD, length-replicate, getD-replicate}
+use Rattle.std.proofs.shelf.Tests.{cases-bool, cases-lt, cond-true, cond-false, ltb-true, lt-ltb, le-ltb}
 use Rattle.std.proofs.shelf.Lists.{getD-past}
-use Rattle.lists.specs.Trade.{Lists, Standing, is-in, points, on-ring, round, rounds-from, rounds, all-in, result, out-from, out, none-in, count-from, round-count}
+use Rattle.lists.specs.Trade.{Lists, is-in, points, on-ring, round, rounds, all-in, result, out, none-in, count-from, round-count}
 use Rattle.lists.specs.Promise.{rank}
 use Rattle.lists.specs.Certificate.{Valid-sheet}
-use Rattle.lists.proofs.theory.Certificates.{Certificate, segment}
+use Rattle.lists.proofs.theory.Certificates.{Certificate, own-or-dearer, segment}
 use Rattle.lists.proofs.theory.Ranks.{rank-tie}
-use Rattle.lists.proofs.theory.Walks.{in-below, out-past, none-in-all, some-in, none-in-from, none-in-false, ring-in}
-use Rattle.lists.proofs.theory.Leaving.{Sized, change-length, gone-change, taken-change, round-inside-at, round-got-at}
-use Rattle.lists.proofs.theory.Rounds.{rounds-more, rounds-later, rounds-none, rounds-sized, in-earlier, out-later, ring-leaves, leaves-ring, somebody-leaves, all-out, in-bound, own-certificate, own-unique, out-of-ring, got-of-ring, in-since, in-until, count-over, count-on, count-at-from, first-empty}
+use Rattle.lists.proofs.theory.Walks.{in-below, out-past, some-in, none-in-from}
+use Rattle.lists.proofs.theory.Leaving.{Sized, round-inside-at, round-got-at}
+use Rattle.lists.proofs.theory.Rounds.{rounds-more, rounds-none, rounds-sized, in-earlier, out-later, ring-leaves, leaves-ring, somebody-leaves, all-out, in-bound, own-certificate, out-of-ring, got-of-ring, in-since, in-until, count-over, count-on, count-at-from, first-empty}
 
 -- all traders, by number
 abbrev pub everyone : ℕ → ℕ → Bool
@@ -63,9 +62,9 @@ module _ (ls : Lists) where
   pub rounds-got-length : (k : ℕ) → length (rounds ls k .got) ≡ length ls
   rounds-got-length k = rounds-of-sized k .got-length
 
-  pub rounds-inside-next : (k i : ℕ) → i < length ls → getD (rounds ls (suc k) .inside) i 0 ≡ cond (on-ring ls (rounds ls k) i) 0 (getD (rounds ls k .inside) i 0)
-  rounds-inside-next k i l =
-      ap (λ t. getD (t .inside) i 0) (rounds-next k) ∙ round-inside-at ls (rounds ls k) i (omega (arith, rounds-inside-length k))
+  pub rounds-inside-next : (k i d : ℕ) → i < length ls → getD (rounds ls (suc k) .inside) i d ≡ cond (on-ring ls (rounds ls k) i) 0 (getD (rounds ls k .inside) i d)
+  rounds-inside-next k i d l =
+      ap (λ t. getD (t .inside) i d) (rounds-next k) ∙ round-inside-at ls (rounds ls k) i d (omega (arith, rounds-inside-length k))
 
   pub rounds-got-next : (k i d : ℕ) → i < length ls → getD (rounds ls (suc k) .got) i d ≡ cond (on-ring ls (rounds ls k) i) (points ls (rounds ls k) i) (getD (rounds ls k .got) i d)
   rounds-got-next k i d l =
@@ -82,8 +81,8 @@ module _ (ls : Lists) where
   rounds-inside-bits (suc k) i =
       elim (cases-lt i (length ls)) [
         | inl l ↦ elim (cases-bool (on-ring ls (rounds ls k) i)) [
-          | inl d ↦ inl (rounds-inside-next k i l ∙ cond-true (on-ring ls (rounds ls k) i) 0 (getD (rounds ls k .inside) i 0) d)
-          | inr d ↦ (let e = rounds-inside-next k i l ∙ cond-false (on-ring ls (rounds ls k) i) 0 (getD (rounds ls k .inside) i 0) d in
+          | inl d ↦ inl (rounds-inside-next k i 0 l ∙ cond-true (on-ring ls (rounds ls k) i) 0 (getD (rounds ls k .inside) i 0) d)
+          | inr d ↦ (let e = rounds-inside-next k i 0 l ∙ cond-false (on-ring ls (rounds ls k) i) 0 (getD (rounds ls k .inside) i 0) d in
               elim (rounds-inside-bits k i) [ inl h ↦ inl (e ∙ h) | inr h ↦ inr (e ∙ h) ])
         ]
         | inr l ↦ inl (getD-past (rounds ls (suc k) .inside) i 0 (omega (arith, rounds-inside-length (suc k))))
@@ -177,6 +176,10 @@ module _ (ls : Lists) where
   pub certificate-start : {got out : ℕ → ℕ} → Certificate (rank ls) (length ls) (everyone (length ls)) (everyone (length ls)) got out →
       Certificate (rank ls) (length ls) (is-in (all-in ls)) (is-in (all-in ls)) got out
   certificate-start {got} {out} C = subst (λ (S : ℕ → Bool). Certificate (rank ls) (length ls) S S got out) (sym (fun-ext (all-in-everyone ls))) C
+
+  -- by a valid sheet nobody has a stand less dear than the own one
+  pub sheet-own : {got out : ℕ → ℕ} → Valid-sheet ls got out → (i : ℕ) → i < length ls → rank ls i (got i) ≤ rank ls i i
+  sheet-own v i l = own-or-dearer (sheet-certificate v) i (lt-ltb i (length ls) l)
 
   -- every certificate of all traders gives the results
   pub certificate-result : {got out : ℕ → ℕ} → Certificate (rank ls) (length ls) (everyone (length ls)) (everyone (length ls)) got out → (i : ℕ) → i < length ls → got i ≡ result ls i

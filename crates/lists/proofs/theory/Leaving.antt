@@ -1,13 +1,12 @@
 -- One step of an exchange: some of those on rings leave a standing with what they point to. All of them leave in a round.
 use mathlib.Core.Path.{_≡_, refl, sym, ap, _∙_}
-use mathlib.Core.Bool.{Bool, true, false, cond, _&&_}
-use mathlib.Core.Logic.{_⊎_, inl, inr}
+use mathlib.Core.Bool.{Bool, true, false, cond}
+use mathlib.Core.Logic.{inl, inr}
 use mathlib.Core.List.{List, [], _∷_}
 use Prim.Native.Nat.{ℕ, zero, suc, _+_, _≤_, _<_}
 use native.Mathlib.Omega.{arith}
-use lib.Dec.{eqb, ltb}
 use lib.ListN.{length, getD}
-use Rattle.std.proofs.shelf.Tests.{cases-bool, cases-eq, cases-lt, cond-true, cond-false, both-ways}
+use Rattle.std.proofs.shelf.Tests.{cases-bool, cases-lt, both-ways}
 use Rattle.std.proofs.shelf.Lists.{getD-past}
 use Rattle.lists.specs.Trade.{Lists, Standing, is-in, points, on-ring, gone, taken, round}
 use Rattle.lists.specs.Promise.{rank}
@@ -15,7 +14,7 @@ use Rattle.lists.specs.Runs.{change}
 use Rattle.lists.proofs.theory.Finite.{size, size-smaller, size-mono}
 use Rattle.lists.proofs.theory.Ranks.{points-dearest}
 use Rattle.lists.proofs.theory.Certificates.{Certificate}
-use Rattle.lists.proofs.theory.Walks.{in-below, ring-in, ring-next, ring-apart, out-no-ring}
+use Rattle.lists.proofs.theory.Walks.{in-below, ring-in, ring-next, ring-apart}
 
 -- ---- lists with some entries replaced
 
@@ -45,6 +44,18 @@ pub taken-change : (ls : Lists) (s : Standing) (i : ℕ) (xs : List ℕ) → tak
 unfolding taken change
 taken-change ls s i [] = refl
 taken-change ls s i (x ∷ xs) = ap (λ ys. cond (on-ring ls s i) (points ls s i) x ∷ ys) (taken-change ls s (suc i) xs)
+
+pub gone-length : (ls : Lists) (s : Standing) (i : ℕ) (xs : List ℕ) → length (gone ls s i xs) ≡ length xs
+gone-length ls s i xs = ap length (gone-change ls s i xs) ∙ change-length (on-ring ls s) (λ j. 0) i xs
+
+pub taken-length : (ls : Lists) (s : Standing) (i : ℕ) (xs : List ℕ) → length (taken ls s i xs) ≡ length xs
+taken-length ls s i xs = ap length (taken-change ls s i xs) ∙ change-length (on-ring ls s) (points ls s) i xs
+
+pub gone-at : (ls : Lists) (s : Standing) (xs : List ℕ) (i d : ℕ) → i < length xs → getD (gone ls s 0 xs) i d ≡ cond (on-ring ls s i) 0 (getD xs i d)
+gone-at ls s xs i d l = ap (λ ys. getD ys i d) (gone-change ls s 0 xs) ∙ change-here (on-ring ls s) (λ j. 0) xs i d l
+
+pub taken-at : (ls : Lists) (s : Standing) (xs : List ℕ) (i d : ℕ) → i < length xs → getD (taken ls s 0 xs) i d ≡ cond (on-ring ls s i) (points ls s i) (getD xs i d)
+taken-at ls s xs i d l = ap (λ ys. getD ys i d) (taken-change ls s 0 xs) ∙ change-here (on-ring ls s) (points ls s) xs i d l
 
 -- ---- a standing of as many traders as there are lists
 
@@ -128,15 +139,14 @@ round-left ls s = λ i. record { inside = gone-change ls s 0 (s .inside) i; got 
 pub round-leaves : (ls : Lists) (s : Standing) → Sized ls s → Leaves ls s (round ls s) (on-ring ls s)
 round-leaves ls s z = rw (round-left ls s) (left-leaves ls s (on-ring ls s) z (ring-in ls s) (ring-next ls s) (ring-apart ls s))
 
--- who is in after a round, entry by entry
-pub round-inside-at : (ls : Lists) (s : Standing) (i : ℕ) → i < length (s .inside) → getD (round ls s .inside) i 0 ≡ cond (on-ring ls s i) 0 (getD (s .inside) i 0)
+-- who is in after a round, and who has what, entry by entry
+pub round-inside-at : (ls : Lists) (s : Standing) (i d : ℕ) → i < length (s .inside) → getD (round ls s .inside) i d ≡ cond (on-ring ls s i) 0 (getD (s .inside) i d)
 unfolding round
-round-inside-at ls s i l = ap (λ xs. getD xs i 0) (gone-change ls s 0 (s .inside)) ∙ change-here (on-ring ls s) (λ j. 0) (s .inside) i 0 l
+round-inside-at ls s i d l = gone-at ls s (s .inside) i d l
 
--- who has what after a round, entry by entry
 pub round-got-at : (ls : Lists) (s : Standing) (i d : ℕ) → i < length (s .got) → getD (round ls s .got) i d ≡ cond (on-ring ls s i) (points ls s i) (getD (s .got) i d)
 unfolding round
-round-got-at ls s i d l = ap (λ xs. getD xs i d) (taken-change ls s 0 (s .got)) ∙ change-here (on-ring ls s) (points ls s) (s .got) i d l
+round-got-at ls s i d l = taken-at ls s (s .got) i d l
 
 -- ---- what is known of the rest is known of the whole
 

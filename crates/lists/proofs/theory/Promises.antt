@@ -1,20 +1,19 @@
 -- The promises of the exchange, from its certificate.
-use mathlib.Core.Path.{_≡_, refl, sym, ap, subst, _∙_}
-use mathlib.Core.Bool.{Bool, true, false, cond, _&&_}
-use mathlib.Core.Logic.{_⊎_, inl, inr}
-use mathlib.Core.List.{List, [], _∷_}
-use Prim.Native.Nat.{ℕ, zero, suc, _+_, _≤_, _<_}
+use mathlib.Core.Path.{_≡_, sym, ap, _∙_}
+use mathlib.Core.Bool.{Bool, true, _&&_}
+use mathlib.Core.List.{List, []}
+use Prim.Native.Nat.{ℕ, _≤_, _<_}
 use native.Mathlib.Omega.{arith}
-use lib.Dec.{eqb, ltb}
-use lib.ListN.{length, getD, set, length-set}
+use lib.Dec.{ltb}
+use lib.ListN.{length, set, length-set}
 use Rattle.std.proofs.shelf.Tests.{ltb-true, lt-ltb, and-parts, and-from}
 use Rattle.std.proofs.shelf.Lists.{getD-set-same, getD-set-other}
-use Rattle.lists.specs.Trade.{Lists, result, out}
+use Rattle.lists.specs.Trade.{Lists, result}
 use Rattle.lists.specs.Promise.{rank-in, rank, Truthful, Core, Shared, Ends}
 use Rattle.lists.proofs.theory.Finite.{Turning}
 use Rattle.lists.proofs.theory.Ranks.{rank-tie}
-use Rattle.lists.proofs.theory.Certificates.{Certificate, own-or-dearer, no-group-betters, no-gain}
-use Rattle.lists.proofs.theory.Exchange.{everyone, certificate, certificate-of, rounds-all-out}
+use Rattle.lists.proofs.theory.Certificates.{own-or-dearer, no-group-betters, no-gain}
+use Rattle.lists.proofs.theory.Exchange.{certificate, certificate-of, rounds-all-out}
 
 -- ---- ranks where one list is replaced
 

@@ -1,15 +1,15 @@
 -- Ranks of stands by a list, and the stand that a trader points to.
-use mathlib.Core.Path.{_≡_, refl, sym, ap, _∙_}
-use mathlib.Core.Bool.{Bool, true, false, cond, _&&_}
-use mathlib.Core.Logic.{_⊎_, inl, inr}
+use mathlib.Core.Path.{_≡_, refl, ap}
+use mathlib.Core.Bool.{true, false, cond}
+use mathlib.Core.Logic.{inl, inr}
 use mathlib.Core.List.{List, [], _∷_}
-use Prim.Native.Nat.{ℕ, zero, suc, _+_, _≤_, _<_}
+use Prim.Native.Nat.{ℕ, zero, suc, _≤_, _<_}
 use native.Mathlib.Omega.{arith}
-use lib.Dec.{eqb, ltb}
+use lib.Dec.{eqb}
 use lib.ListN.{length, getD, take, drop}
-use Rattle.std.proofs.shelf.Tests.{cases-bool, cases-eq, cases-lt, cases-order, eqb-true, eqb-false, eq-eqb, ne-eqb, both-ways}
+use Rattle.std.proofs.shelf.Tests.{cases-bool, cases-eq, cases-lt, cases-order, eqb-true, eq-eqb, ne-eqb, both-ways}
 use Rattle.lists.specs.Trade.{Lists, Standing, is-in, first-in, points}
-use Rattle.lists.specs.Promise.{rank-in, rank}
+use Rattle.lists.specs.Promise.{Distinct, Proper, rank-in, rank}
 
 -- No two stands that are at least as dear as the own one have the same rank.
 abbrev pub Tieless : (ℕ → ℕ → ℕ) → Type 0
@@ -73,6 +73,31 @@ rank-at-most [] i p l = absurd (omega arith)
 rank-at-most (u ∷ us) i zero l = rw (eq-eqb u u refl) (omega arith)
 rank-at-most (u ∷ us) i (suc p) l = let h = rank-at-most us i p (omega arith) in grind arith
 
+-- Of proper lists: the stand at a place has that rank, and the own one has the length.
+pub rank-proper : (ls : Lists) → Proper ls → (i p : ℕ) → i < length ls → p < length (getD ls i []) → rank ls i (getD (getD ls i []) p 0) ≡ p
+unfolding Proper Distinct rank
+rank-proper ls h i p l m =
+    rank-listed (getD ls i []) i (getD (getD ls i []) p 0) p m refl
+    (λ q b e. (let z = h i l .0 .0 q p (omega arith) m e in omega arith))
+
+pub rank-proper-own : (ls : Lists) → Proper ls → (i : ℕ) → i < length ls → rank ls i i ≡ length (getD ls i [])
+unfolding Proper rank
+rank-proper-own ls h i l = rank-own (getD ls i []) i (h i l .1)
+
+-- the stands dearer than one that is listed or the own one: they stand in the list, at places below its rank
+pub dearer-place : (ls : Lists) (i g t : ℕ) → rank ls i g ≤ rank ls i i → rank ls i t < rank ls i g →
+    (rank ls i t < length (getD ls i [])) × (getD (getD ls i []) (rank ls i t) 0 ≡ t)
+unfolding rank
+dearer-place ls i g t own l =
+    let b = rank-own-bound (getD ls i []) i in
+    let m : rank-in (getD ls i []) i t < length (getD ls i []) = omega arith in
+    (m, rank-place (getD ls i []) i t m)
+
+-- and every stand at such a place is dearer
+pub place-dearer : (ls : Lists) (i g p : ℕ) → p < length (getD ls i []) → p < rank ls i g → rank ls i (getD (getD ls i []) p 0) < rank ls i g
+unfolding rank
+place-dearer ls i g p m l = let h = rank-at-most (getD ls i []) i p m in omega arith
+
 -- what is dearer than a stand by one list is dearer by another that is the same up to that stand
 pub rank-top : (us vs : List ℕ) (i g t : ℕ) → take (suc (rank-in us i g)) vs ≡ take (suc (rank-in us i g)) us → rank-in vs i t < rank-in vs i g → rank-in us i t < rank-in us i g
 unfolding rank-in
@@ -110,6 +135,19 @@ first-in-dearest s (u ∷ us) i t l =
           let h = first-in-dearest s us i t in
           elim (cases-eq u t) [ inl e ↦ rw (← e) d | inr e ↦ h (let ne = ne-eqb u t e in grind arith) ])
     ]
+
+-- the stand at the first place whose holder is in, or the own one where there is none
+pub first-in-listed : (s : Standing) (ts : List ℕ) (i p : ℕ) → p < length ts → is-in s (getD ts p 0) ≡ true → ((q : ℕ) → q < p → is-in s (getD ts q 0) ≡ false) → first-in s ts i ≡ getD ts p 0
+unfolding first-in
+first-in-listed s [] i p l e f = absurd (omega arith)
+first-in-listed s (u ∷ us) i zero l e f = rw e
+first-in-listed s (u ∷ us) i (suc p) l e f =
+    rw (f 0 (omega arith)) (first-in-listed s us i p (omega arith) e (λ q m. f (suc q) (omega arith)))
+
+pub first-in-own : (s : Standing) (ts : List ℕ) (i : ℕ) → ((q : ℕ) → q < length ts → is-in s (getD ts q 0) ≡ false) → first-in s ts i ≡ i
+unfolding first-in
+first-in-own s [] i f = refl
+first-in-own s (u ∷ us) i f = rw (f 0 (omega arith)) (first-in-own s us i (λ q m. f (suc q) (omega arith)))
 
 pub points-in : (ls : Lists) (s : Standing) (i : ℕ) → is-in s i ≡ true → is-in s (points ls s i) ≡ true
 unfolding points

@@ -1,21 +1,20 @@
 -- The other statements about the exchange.
-use mathlib.Core.Path.{_≡_, refl, sym, ap, subst, _∙_}
-use mathlib.Core.Bool.{Bool, true, false, cond, _&&_}
-use mathlib.Core.Logic.{_⊎_, inl, inr}
+use mathlib.Core.Path.{_≡_, refl, sym, ap, subst}
+use mathlib.Core.Logic.{inl, inr}
 use mathlib.Core.List.{List, [], _∷_, _++_}
-use Prim.Native.Nat.{ℕ, zero, suc, _+_, _≤_, _<_}
+use Prim.Native.Nat.{ℕ, zero, suc, _-_, _≤_, _<_}
 use native.Mathlib.Omega.{arith}
-use lib.Dec.{eqb, ltb}
+use lib.Dec.{eqb}
 use lib.ListN.{length, getD, set, take, length-set}
-use Rattle.std.proofs.shelf.Tests.{cases-bool, cases-eq, cases-lt, ltb-true, lt-ltb, and-parts, and-from, both-ways, eq-eqb}
-use Rattle.lists.specs.Trade.{Lists, Standing, is-in, walk, points, on-ring, rounds, all-in, result, out, none-in}
+use Rattle.std.proofs.shelf.Tests.{cases-bool, cases-eq, cases-lt, ltb-true, lt-ltb, both-ways, eq-eqb}
+use Rattle.lists.specs.Trade.{Lists, Standing, is-in, rounds, all-in, result, out, none-in}
 use Rattle.lists.specs.Promise.{rank-in, rank}
-use Rattle.lists.specs.Certificate.{Valid-sheet, steps}
-use Rattle.lists.specs.Runs.{Run, over, ring, take-ring, same-ring}
-use Rattle.lists.specs.Statements.{Somebody-on-a-ring, Rings-apart, Every-round-somebody-leaves, Rounds-counted, Dearest-of-those-in, Never-less-dear, Any-order, Some-order, Only-the-top-matters, Group-share, Unbettered, Sharing, Result-unbettered, Core-unique, Own-sheet-valid, Valid-sheet-is-the-result, Least-rounds, Rounds-by-rings}
-use Rattle.lists.proofs.theory.Finite.{find, size, size-none, size-bound, size-smaller, Turning}
+use Rattle.lists.specs.Certificate.{Valid-sheet}
+use Rattle.lists.specs.Runs.{Run, over, ring, take-ring}
+use Rattle.lists.specs.Statements.{Somebody-on-a-ring, Rings-apart, Every-round-somebody-leaves, Rounds-counted, Dearest-of-those-in, Never-less-dear, Any-order, Some-order, Only-the-top-matters, Group-share, Unbettered, Sharing, Result-unbettered, Core-unique, Own-sheet-valid, Valid-sheet-is-the-result, Least-rounds, along, Dearer-than-got, Rounds-by-rings}
+use Rattle.lists.proofs.theory.Finite.{size, size-none, size-bound, Turning}
 use Rattle.lists.proofs.theory.Ranks.{rank-tie, rank-top, points-in, points-dearest}
-use Rattle.lists.proofs.theory.Certificates.{Certificate, reranked, segment, only-unbettered}
+use Rattle.lists.proofs.theory.Certificates.{reranked, segment, only-unbettered}
 use Rattle.lists.proofs.theory.Walks.{in-below, out-past, none-in-all, some-in, somebody-on-ring, rings-meet, ring-in, same-ring-self}
 use Rattle.lists.proofs.theory.Leaving.{Sized, rest-fewer}
 use Rattle.lists.proofs.theory.Runs.{take-ring-leaves, run-certificate}
@@ -176,3 +175,30 @@ rounds-by-rings ls i l =
       λ r e. (let w = ring-just-later ls (all-in ls) z i r p e in
           (w .0, w .1, (all-in-below ls (w .1) (w .2), w .3), w .4)),
     )
+
+no-later : (ls : Lists) (later : ℕ → ℕ) →
+    ((i r : ℕ) → i < length ls → later i ≡ suc r → (m : ℕ) × (t : ℕ) × Dearer-than-got ls (along ls i m) t × (later t ≡ r)) →
+    (b i : ℕ) → i < length ls → later i < b → later i ≤ out ls i
+unfolding Rounds-by-rings
+no-later ls later just zero i l h = absurd (omega arith)
+no-later ls later just (suc b) i l h =
+    elim (cases-eq (later i) 0) [
+      | inl e ↦ omega arith
+      | inr e ↦
+          (let q : later i ≡ suc (later i - 1) = omega arith in
+          let w = just i (later i - 1) l q in
+          let x = rounds-by-rings ls i l .0 (w .0) (w .1) (w .2) in
+          let y = no-later ls later just b (w .1) (w .2 .0) (omega (arith, w .3)) in
+          omega (arith, w .3))
+    ]
+
+-- The rounds of a valid sheet are those of the exchange where each ring of a round other than 0 has a member with a dearer
+-- stand whose holder has the round just before: so rounds can be found ring by ring.
+pub rounds-determined : (ls : Lists) (got later : ℕ → ℕ) → Valid-sheet ls got later →
+    ((i r : ℕ) → i < length ls → later i ≡ suc r → (m : ℕ) × (t : ℕ) × Dearer-than-got ls (along ls i m) t × (later t ≡ r)) →
+    (i : ℕ) → i < length ls → later i ≡ out ls i
+unfolding Rounds-by-rings Least-rounds
+rounds-determined ls got later v just i l =
+    let a = least-rounds ls got later v i l in
+    let b = no-later ls later just (suc (later i)) i l (omega arith) in
+    omega arith

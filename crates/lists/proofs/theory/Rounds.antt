@@ -1,9 +1,8 @@
 -- Rounds from any standing: they end, they give a certificate, and who is in says when a trader goes out.
-use mathlib.Core.Path.{_≡_, refl, sym, ap, subst, _∙_}
-use mathlib.Core.Bool.{Bool, true, false, cond, _&&_}
-use mathlib.Core.Logic.{_⊎_, inl, inr}
-use mathlib.Core.List.{List, [], _∷_}
-use Prim.Native.Nat.{ℕ, zero, suc, _+_, _-_, _≤_, _<_}
+use mathlib.Core.Path.{_≡_, refl, sym, ap, _∙_}
+use mathlib.Core.Bool.{Bool, true, false, _&&_}
+use mathlib.Core.Logic.{inl, inr}
+use Prim.Native.Nat.{ℕ, zero, suc, _≤_, _<_}
 use native.Mathlib.Omega.{arith}
 use lib.Dec.{eqb, ltb}
 use lib.ListN.{length, getD}
@@ -14,8 +13,8 @@ use Rattle.lists.specs.Certificate.{steps}
 use Rattle.lists.proofs.theory.Finite.{find, find-either, least-true, size, size-none, size-bound, size-mono, size-false, orbit}
 use Rattle.lists.proofs.theory.Ranks.{rank-tie, points-is}
 use Rattle.lists.proofs.theory.Certificates.{Certificate, turns, segment}
-use Rattle.lists.proofs.theory.Walks.{in-below, out-past, none-in-all, some-in, none-in-from, ring-in, ring-from, out-no-ring, somebody-on-ring}
-use Rattle.lists.proofs.theory.Leaving.{Sized, Leaves, round-leaves, rest-in, rest-out, rest-fewer, rest-no-more, whole, nobody}
+use Rattle.lists.proofs.theory.Walks.{in-below, out-past, ring-in, ring-from, somebody-on-ring}
+use Rattle.lists.proofs.theory.Leaving.{Sized, Leaves, round-leaves, rest-in, rest-out, rest-fewer, whole, nobody}
 
 module _ (ls : Lists) where
   pub round-sized : (s : Standing) → Sized ls s → Sized ls (round ls s)

@@ -1,11 +1,9 @@
 -- Rings taken out one at a time, in any order: every run gives a certificate.
-use mathlib.Core.Path.{_≡_, refl, sym, ap, _∙_}
-use mathlib.Core.Bool.{Bool, true, false, cond, _&&_}
-use mathlib.Core.Logic.{_⊎_, inl, inr}
-use Prim.Native.Nat.{ℕ, zero, suc, _≤_, _<_}
+use mathlib.Core.Path.{_≡_, refl, _∙_}
+use mathlib.Core.Bool.{true, false, cond}
+use Prim.Native.Nat.{ℕ, suc}
 use lib.ListN.{length, getD}
-use Rattle.std.proofs.shelf.Tests.{cases-bool, cond-true, cond-false, both-ways}
-use Rattle.lists.specs.Trade.{Lists, Standing, is-in, points, on-ring}
+use Rattle.lists.specs.Trade.{Lists, Standing, is-in, on-ring}
 use Rattle.lists.specs.Promise.{rank}
 use Rattle.lists.specs.Runs.{same-ring, take-ring, Run, over, ring}
 use Rattle.lists.proofs.theory.Certificates.{Certificate}

@@ -1,18 +1,18 @@
 -- Walks and rings in one standing.
 use mathlib.Core.Path.{_≡_, refl, sym, ap, _∙_}
-use mathlib.Core.Bool.{Bool, true, false, cond, _&&_}
-use mathlib.Core.Logic.{_⊎_, inl, inr}
+use mathlib.Core.Bool.{true, false, cond}
+use mathlib.Core.Logic.{inl, inr}
 use mathlib.Core.List.{List, [], _∷_}
 use Prim.Native.Nat.{ℕ, zero, suc, _+_, _≤_, _<_}
 use native.Mathlib.Omega.{arith}
-use lib.Dec.{eqb, ltb}
+use lib.Dec.{eqb}
 use lib.ListN.{length, getD}
-use Rattle.std.proofs.shelf.Tests.{cases-bool, cases-eq, cases-lt, eqb-true, eq-eqb, ne-eqb, and-parts, and-from, and-left, both-ways}
+use Rattle.std.proofs.shelf.Tests.{cases-bool, cases-lt, eqb-true, eq-eqb, and-parts, and-from, and-left, both-ways}
 use Rattle.std.proofs.shelf.Lists.{getD-past}
 use Rattle.lists.specs.Trade.{Lists, Standing, is-in, points, walk, comes-back, on-ring, none-in}
 use Rattle.lists.specs.Certificate.{steps}
 use Rattle.lists.specs.Runs.{reaches, same-ring}
-use Rattle.lists.proofs.theory.Finite.{steps-out, steps-add, steps-swap, Returns, returns-next, returns-steps, returns-apart, returns-back, returns-within, stays, meets}
+use Rattle.lists.proofs.theory.Finite.{steps-out, steps-add, Returns, returns-next, returns-apart, returns-back, returns-within, stays, meets}
 use Rattle.lists.proofs.theory.Ranks.{points-in}
 
 -- ---- who is in

@@ -1,16 +1,16 @@
 -- The worked years, by computing the definitions.
 use mathlib.Core.Path.{_≡_, refl, sym, ap, _∙_}
-use mathlib.Core.Bool.{Bool, true, false, cond, not, _&&_}
+use mathlib.Core.Bool.{Bool, true, not, _&&_}
 use mathlib.Core.Logic.{inl, inr}
 use mathlib.Core.List.{List, [], _∷_}
-use Prim.Native.Nat.{ℕ, zero, suc, _+_, _≤_, _<_}
+use Prim.Native.Nat.{ℕ, zero, suc, _<_}
 use native.Mathlib.Omega.{arith}
 use lib.Dec.{eqb, ltb}
 use lib.ListN.{length, getD}
 use Rattle.std.proofs.shelf.Tests.{cases-lt, eqb-true, ltb-true, lt-ltb, and-parts, and-from, not-true, both-ways}
-use Rattle.lists.specs.Trade.{Lists, is-in, first-in, points, walk, comes-back, on-ring, gone, taken, round, rounds-from, all-in, rounds, result, none-in, count-from, round-count}
+use Rattle.lists.specs.Trade.{is-in, first-in, points, walk, comes-back, on-ring, gone, taken, round, rounds-from, all-in, rounds, result, none-in, count-from, round-count}
 use Rattle.lists.specs.Promise.{rank-in, rank}
-use Rattle.lists.specs.Statements.{Bettered, Group-share}
+use Rattle.lists.specs.Statements.{Bettered}
 use Rattle.lists.specs.Years.{Year, years, no-year, Right, ring-of-three, beside-a-ring, Worked-years, Keeping-is-bettered, Pairs-are-not-enough}
 
 -- the test passes for all numbers below n
