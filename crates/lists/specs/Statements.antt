@@ -98,6 +98,15 @@ Result-unbettered = (ls : Lists) → Sharing ls (result ls) × Unbettered ls (re
 unfoldable pub Core-unique : Type 0
 Core-unique = (ls : Lists) (σ : ℕ → ℕ) → Sharing ls σ → Unbettered ls σ → (i : ℕ) → i < length ls → σ i ≡ result ls i
 
+-- No group does better than by the result, not even where only one of it has a dearer stand.
+unfoldable pub No-group-does-better : Type 0
+No-group-does-better = (ls : Lists) (group : ℕ → Bool) → Bettered ls (result ls) group → ⊥
+
+-- By every other sharing of the stands some group does better.
+unfoldable pub Others-are-bettered : Type 0
+Others-are-bettered =
+    (ls : Lists) (σ : ℕ → ℕ) → Sharing ls σ → (i : ℕ) → i < length ls → (σ i ≡ result ls i → ⊥) → (group : ℕ → Bool) × Bettered ls σ group
+
 -- ---- sheets
 
 -- The results and the rounds of the exchange are a valid sheet.

@@ -1,6 +1,6 @@
 // What is proved of the exchange as it is defined: each function's contract names a statement.
 ghost use Rattle.lists.specs.Promise.{Truthful, Core, Shared, Ends};
-ghost use Rattle.lists.specs.Statements.{Somebody-on-a-ring, Rings-apart, Every-round-somebody-leaves, Rounds-counted, Dearest-of-those-in, Never-less-dear, Any-order, Some-order, Only-the-top-matters, Result-unbettered, Core-unique, Own-sheet-valid, Valid-sheet-is-the-result, Least-rounds, Rounds-by-rings};
+ghost use Rattle.lists.specs.Statements.{Somebody-on-a-ring, Rings-apart, Every-round-somebody-leaves, Rounds-counted, Dearest-of-those-in, Never-less-dear, Any-order, Some-order, Only-the-top-matters, Result-unbettered, Core-unique, No-group-does-better, Others-are-bettered, Own-sheet-valid, Valid-sheet-is-the-result, Least-rounds, Rounds-by-rings};
 ghost use Rattle.lists.specs.Years.{Worked-years, Keeping-is-bettered, Pairs-are-not-enough};
 
 // Nobody gains by a list that is not true.
@@ -104,6 +104,20 @@ pub fn result_unbettered() -> u8
 // Of no other sharing this is so.
 pub fn core_unique() -> u8
     ensures { λ _. ⌜ Core-unique ⌝ }
+{
+    0
+}
+
+// No group does better than by the result.
+pub fn no_group_does_better() -> u8
+    ensures { λ _. ⌜ No-group-does-better ⌝ }
+{
+    0
+}
+
+// By every other sharing some group does better.
+pub fn others_are_bettered() -> u8
+    ensures { λ _. ⌜ Others-are-bettered ⌝ }
 {
     0
 }

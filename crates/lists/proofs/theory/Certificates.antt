@@ -145,19 +145,23 @@ module _ {rk : ℕ → ℕ → ℕ} {n : ℕ} {S : ℕ → Bool} {got out : ℕ 
     pub no-group-betters : (i : ℕ) → G i ≡ true → share i ≡ got i
     no-group-betters i g = keeps (suc (out i)) i g (omega arith)
 
+  -- another sharing that agrees on all lower rounds gives nobody of round r anything dearer
+  pub level-well : (σ : ℕ → ℕ) → Turning n S σ → (r : ℕ) → ((i : ℕ) → S i ≡ true → out i < r → σ i ≡ got i) → (x : ℕ) → level S out r x ≡ true → rk x (got x) ≤ rk x (σ x)
+  level-well σ T r ih x q =
+      let h = and-parts (S x) (eqb (out x) r) q in
+      let o = eqb-true (out x) r (h .1) in
+      elim (cases-lt (rk x (σ x)) (rk x (got x))) [
+        | inl l ↦ absurd (let d = C .dearer x (σ x) (h .0) (T .into x (h .0)) l in
+            not-theirs C σ r ih x (σ x) (d .0) (omega arith) (omega arith) (λ y q. T .apart y x q (h .0)) refl)
+        | inr l ↦ l
+      ]
+
   module _ (σ : ℕ → ℕ) (T : Turning n S σ)
       (unbettered : (G : ℕ → Bool) (share : ℕ → ℕ) → Turning n G share → ((i : ℕ) → G i ≡ true → S i ≡ true) → ((i : ℕ) → G i ≡ true → rk i (share i) ≤ rk i (σ i)) → (i : ℕ) → G i ≡ true → share i ≡ σ i) where
     level-only : (r : ℕ) → ((i : ℕ) → S i ≡ true → out i < r → σ i ≡ got i) → (j : ℕ) → S j ≡ true → out j ≡ r → σ j ≡ got j
     level-only r ih j p o =
-        let well : (x : ℕ) → level S out r x ≡ true → rk x (got x) ≤ rk x (σ x) =
-        λ x q. (let h = and-parts (S x) (eqb (out x) r) q in
-        let o = eqb-true (out x) r (h .1) in
-        elim (cases-lt (rk x (σ x)) (rk x (got x))) [
-          | inl l ↦ absurd (let d = C .dearer x (σ x) (h .0) (T .into x (h .0)) l in
-              not-theirs C σ r ih x (σ x) (d .0) (omega arith) (omega arith) (λ y q. T .apart y x q (h .0)) refl)
-          | inr l ↦ l
-        ]) in
-        sym (unbettered (level S out r) got (level-turns C r) (λ x q. and-parts (S x) (eqb (out x) r) q .0) well j (and-from (S j) (eqb (out j) r) p (eq-eqb (out j) r o)))
+        sym (unbettered (level S out r) got (level-turns C r) (λ x q. and-parts (S x) (eqb (out x) r) q .0) (level-well σ T r ih) j
+        (and-from (S j) (eqb (out j) r) p (eq-eqb (out j) r o)))
 
     only : (r : ℕ) (i : ℕ) → S i ≡ true → out i < r → σ i ≡ got i
     only zero i p l = absurd (omega arith)

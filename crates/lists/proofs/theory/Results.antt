@@ -1,20 +1,21 @@
 -- The other statements about the exchange.
 use mathlib.Core.Path.{_≡_, refl, sym, ap, subst}
+use mathlib.Core.Bool.{Bool, true, false, not, _&&_}
 use mathlib.Core.Logic.{inl, inr}
 use mathlib.Core.List.{List, [], _∷_, _++_}
 use Prim.Native.Nat.{ℕ, zero, suc, _-_, _≤_, _<_}
 use native.Mathlib.Omega.{arith}
-use lib.Dec.{eqb}
+use lib.Dec.{eqb, ltb}
 use lib.ListN.{length, getD, set, take, length-set}
-use Rattle.std.proofs.shelf.Tests.{cases-bool, cases-eq, cases-lt, ltb-true, lt-ltb, both-ways, eq-eqb}
+use Rattle.std.proofs.shelf.Tests.{cases-bool, cases-eq, cases-lt, ltb-true, lt-ltb, both-ways, eq-eqb, eqb-true, eqb-false, ne-eqb, and-parts, and-from, not-true, not-from-false}
 use Rattle.lists.specs.Trade.{Lists, Standing, is-in, rounds, all-in, result, out, none-in}
 use Rattle.lists.specs.Promise.{rank-in, rank}
 use Rattle.lists.specs.Certificate.{Valid-sheet}
 use Rattle.lists.specs.Runs.{Run, over, ring, take-ring}
-use Rattle.lists.specs.Statements.{Somebody-on-a-ring, Rings-apart, Every-round-somebody-leaves, Rounds-counted, Dearest-of-those-in, Never-less-dear, Any-order, Some-order, Only-the-top-matters, Group-share, Unbettered, Sharing, Result-unbettered, Core-unique, Own-sheet-valid, Valid-sheet-is-the-result, Least-rounds, along, Dearer-than-got, Rounds-by-rings}
-use Rattle.lists.proofs.theory.Finite.{size, size-none, size-bound, Turning}
+use Rattle.lists.specs.Statements.{Somebody-on-a-ring, Rings-apart, Every-round-somebody-leaves, Rounds-counted, Dearest-of-those-in, Never-less-dear, Any-order, Some-order, Only-the-top-matters, Group-share, Unbettered, Sharing, Result-unbettered, Core-unique, Own-sheet-valid, Valid-sheet-is-the-result, Least-rounds, along, Dearer-than-got, Rounds-by-rings, Bettered, No-group-does-better, Others-are-bettered}
+use Rattle.lists.proofs.theory.Finite.{size, size-none, size-bound, Turning, find, size-mono, size-false, least-true, level}
 use Rattle.lists.proofs.theory.Ranks.{rank-tie, rank-top, points-in, points-dearest}
-use Rattle.lists.proofs.theory.Certificates.{reranked, segment, only-unbettered}
+use Rattle.lists.proofs.theory.Certificates.{reranked, segment, only-unbettered, level-turns, level-well}
 use Rattle.lists.proofs.theory.Walks.{in-below, out-past, none-in-all, some-in, somebody-on-ring, rings-meet, ring-in, same-ring-self}
 use Rattle.lists.proofs.theory.Leaving.{Sized, rest-fewer}
 use Rattle.lists.proofs.theory.Runs.{take-ring-leaves, run-certificate}
@@ -130,22 +131,111 @@ unfolding Result-unbettered Sharing Unbettered
 result-is-unbettered ls =
     ((result-below ls, result-apart ls), λ group share h. result-unbettered ls group share (h .within) (h .apart) (h .no-worse))
 
+-- a sharing maps all traders to all, no two to the same
+sharing-turns : (ls : Lists) (σ : ℕ → ℕ) → ((i : ℕ) → i < length ls → σ i < length ls) → ((i j : ℕ) → i < length ls → j < length ls → σ i ≡ σ j → i ≡ j) →
+    Turning (length ls) (everyone (length ls)) σ
+sharing-turns ls σ below apart = record {
+  below = λ x p. ltb-true x (length ls) p;
+  into = λ x p. lt-ltb (σ x) (length ls) (below x (ltb-true x (length ls) p));
+  apart = λ x y p q. apart x y (ltb-true x (length ls) p) (ltb-true y (length ls) q);
+}
+
 pub core-unique : Core-unique
 unfolding Core-unique Sharing Unbettered
 core-unique ls σ (below, apart) u i l =
-    let n = length ls in
-    let T : Turning n (everyone n) σ = record {
-      below = λ x p. ltb-true x n p;
-      into = λ x p. lt-ltb (σ x) n (below x (ltb-true x n p));
-      apart = λ x y p q. apart x y (ltb-true x n p) (ltb-true y n q);
-    } in
-    only-unbettered (rank-tie ls) (certificate ls) σ T
+    only-unbettered (rank-tie ls) (certificate ls) σ (sharing-turns ls σ below apart)
     (λ G share t part well. (let share-of : Group-share ls σ G share = record {
       within = λ x b g. (t .below (share x) (t .into x g), t .into x g);
       apart = λ x y b c. t .apart x y;
       no-worse = λ x b. well x;
     } in λ x g. u G share share-of x (t .below x g) g))
-    i (lt-ltb i n l)
+    i (lt-ltb i (length ls) l)
+
+pub no-group-does-better : No-group-does-better
+unfolding No-group-does-better Bettered
+no-group-does-better ls group b =
+    let w = b .2 in
+    let i = w .0 in
+    let h = b .1 in
+    let e = result-unbettered ls group (b .0) (h .within) (h .apart) (h .no-worse) i (w .1) (w .2) in
+    let q : rank ls i (b .0 i) ≡ rank ls i (result ls i) = ap (rank ls i) e in
+    omega (arith, w .3)
+
+-- σ and the result differ for somebody of round r
+differ : Lists → (ℕ → ℕ) → ℕ → ℕ → Bool
+differ ls σ r x = eqb (out ls x) r && not (eqb (σ x) (result ls x))
+
+differ-at : (ls : Lists) (σ : ℕ → ℕ) (i : ℕ) → (σ i ≡ result ls i → ⊥) → differ ls σ (out ls i) i ≡ true
+unfolding differ
+differ-at ls σ i ne =
+    and-from (eqb (out ls i) (out ls i)) (not (eqb (σ i) (result ls i))) (eq-eqb (out ls i) (out ls i) refl) (not-from-false (eqb (σ i) (result ls i)) (ne-eqb (σ i) (result ls i) ne))
+
+differ-to : (ls : Lists) (σ : ℕ → ℕ) (r x : ℕ) → differ ls σ r x ≡ true → (out ls x ≡ r) × (σ x ≡ result ls x → ⊥)
+unfolding differ
+differ-to ls σ r x e =
+    let h = and-parts (eqb (out ls x) r) (not (eqb (σ x) (result ls x))) e in
+    (eqb-true (out ls x) r (h .0), eqb-false (σ x) (result ls x) (not-true (eqb (σ x) (result ls x)) (h .1)))
+
+-- the first round in which they differ
+first-differ : (ls : Lists) (σ : ℕ → ℕ) (i : ℕ) → i < length ls → (σ i ≡ result ls i → ⊥) →
+    (x : ℕ) × (x < length ls) × (σ x ≡ result ls x → ⊥) × ((y : ℕ) → everyone (length ls) y ≡ true → out ls y < out ls x → σ y ≡ result ls y)
+first-differ ls σ i l ne =
+    let n = length ls in
+    let some : (r x : ℕ) → x < n → differ ls σ r x ≡ true → ltb 0 (size (differ ls σ r) n) ≡ true =
+    λ r x b e. elim (cases-lt 0 (size (differ ls σ r) n)) [
+      | inl m ↦ lt-ltb 0 (size (differ ls σ r) n) m
+      | inr m ↦ absurd (both-ways (differ ls σ r x) (size-none (differ ls σ r) n m x b) e)
+    ] in
+    let w = least-true (λ r. ltb 0 (size (differ ls σ r) n)) (out ls i) (some (out ls i) i l (differ-at ls σ i ne)) in
+    elim (find (differ ls σ (w .0)) n) [
+      | inl f ↦
+          (let d = differ-to ls σ (w .0) (f .0) (f .2) in (
+            f .0,
+            f .1,
+            d .1,
+            λ y p m. elim (cases-eq (σ y) (result ls y)) [
+              | inl e ↦ e
+              | inr e ↦ absurd (both-ways (ltb 0 (size (differ ls σ (out ls y)) n)) (w .3 (out ls y) (omega (arith, d .0)))
+                  (some (out ls y) y (ltb-true y n p) (differ-at ls σ y e)))
+            ],
+          ))
+      | inr f ↦ absurd (let z = size-mono (λ x. false) (differ ls σ (w .0)) n (λ x b e. absurd (both-ways (differ ls σ (w .0) x) (f x b) e)) in
+          let o = size-false n in let p = ltb-true 0 (size (differ ls σ (w .0)) n) (w .2) in omega arith)
+    ]
+
+-- the group of that round, who would share its stands as the result does
+pub others-are-bettered : Others-are-bettered
+unfolding Others-are-bettered Sharing Bettered
+others-are-bettered ls σ (below, apart) i l ne =
+    let n = length ls in
+    let C = certificate ls in
+    let T = sharing-turns ls σ below apart in
+    let w = first-differ ls σ i l ne in
+    let x = w .0 in
+    let r = out ls x in
+    let t = level-turns C r in
+    let well = level-well (rank-tie ls) C σ T r (w .3) in
+    let inside : level (everyone n) (out ls) r x ≡ true = and-from (everyone n x) (eqb (out ls x) r) (lt-ltb x n (w .1)) (eq-eqb (out ls x) r refl) in (
+      level (everyone n) (out ls) r,
+      (
+        result ls,
+        record {
+          within = λ y b g. (t .below (result ls y) (t .into y g), t .into y g);
+          apart = λ y z b c. t .apart y z;
+          no-worse = λ y b. well y;
+        },
+        (
+          x,
+          w .1,
+          inside,
+          elim (cases-lt (rank ls x (result ls x)) (rank ls x (σ x))) [
+            | inl m ↦ m
+            | inr m ↦ absurd (let h = well x inside in
+                w .2 (sym (rank-tie ls x (result ls x) (σ x) (result-own ls x (w .1)) (omega arith))))
+          ],
+        ),
+      ),
+    )
 
 -- ---- sheets
 
