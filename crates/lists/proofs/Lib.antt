@@ -2,3 +2,4 @@ pub mod Accepted
 pub mod Encoding
 pub mod Faults
 pub mod Positions
+pub mod theory

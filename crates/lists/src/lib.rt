@@ -2,3 +2,4 @@
 pub mod laws;
 pub mod reading;
 pub mod refusals;
+pub mod theorems;
