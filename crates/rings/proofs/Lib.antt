@@ -1,2 +1,4 @@
 pub mod Steps
 pub mod Marks
+pub mod Around
+pub mod Found

@@ -35,7 +35,8 @@ pub fn mark_rings(next: &[u16], work: &mut [u16]) -> Result<(), Refusal>
 
 // Marks all traders, those on rings with RING. Each is met once, so the work grows with their number.
 fn mark_all(next: &[u16], marks: &mut [u16])
-    requires { ⌜ length (now marks) ≡ length (now next) ⌝ ∗ ⌜ length (now next) ≤ 4000 ⌝ }
+    requires same { ⌜ length (now marks) ≡ length (now next) ⌝ }
+    requires most { ⌜ length (now next) ≤ 4000 ⌝ }
     ensures { λ _. ⌜ Told (now (next .entry)) (now (marks .exit)) ⌝ }
 {
     marks.fill(UNMET);
