@@ -2,3 +2,4 @@ pub mod Steps
 pub mod Marks
 pub mod Around
 pub mod Found
+pub mod Flags
