@@ -3,3 +3,4 @@ pub mod Marks
 pub mod Around
 pub mod Found
 pub mod Flags
+pub mod Law
