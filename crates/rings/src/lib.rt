@@ -87,3 +87,53 @@ fn turn_to_flags(work: &mut [u16], n: usize)
         work[n + i] = if on_ring { 1 } else { 0 };
     }
 }
+
+#[cfg(test)]
+mod tests {
+    use lists::refusals::Lent;
+    use lists::refusals::Refusal;
+    use lists::refusals::RefusalDebug;
+    use lists::refusals::RefusalPartialEq;
+    use std::test::*;
+    use super::mark_rings;
+
+    // three in a ring
+    #[test]
+    fn ring_of_three() -> Result<(), Fail> {
+        let mut work = [1, 1, 1, 7, 7, 7, 9];
+        mark_rings(&[1, 2, 0], &mut work)?;
+        check_eq(work, [1, 1, 1, 1, 1, 1, 9])
+    }
+
+    // 0 and 1 lead to the ring of 2 and 3
+    #[test]
+    fn way_to_a_ring() -> Result<(), Fail> {
+        let mut work = [1, 1, 1, 1, 0, 0, 0, 0];
+        mark_rings(&[1, 2, 3, 2], &mut work)?;
+        check_eq(work, [1, 1, 1, 1, 0, 0, 1, 1])
+    }
+
+    // 1 points to the own stand, and 2 to nobody's
+    #[test]
+    fn own_stand() -> Result<(), Fail> {
+        let mut work = [1, 1, 1, 0, 0, 0];
+        mark_rings(&[1, 1, 9], &mut work)?;
+        check_eq(work, [1, 1, 1, 0, 1, 0])
+    }
+
+    // 0 and 1 in one ring, 2 and 3 in another, and 1 is out
+    #[test]
+    fn two_rings() -> Result<(), Fail> {
+        let mut work = [1, 0, 1, 1, 0, 0, 0, 0];
+        mark_rings(&[1, 0, 3, 2], &mut work)?;
+        check_eq(work, [1, 0, 1, 1, 1, 0, 1, 1])
+    }
+
+    #[test]
+    fn refusals() -> Result<(), Fail> {
+        let mut work = [1, 2, 3];
+        check(mark_rings(&[], &mut work) == Err(Refusal::WrongCount))?;
+        check(mark_rings(&[1, 0], &mut work) == Err(Refusal::TooShort { lent: Lent::Work }))?;
+        check_eq(work, [1, 2, 3])
+    }
+}
