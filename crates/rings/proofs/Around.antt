@@ -19,6 +19,10 @@ pub record Going (next m m′ : List ℕ) (e k at : ℕ) : Type 0 where
   pub each : (y : ℕ) → ((j : ℕ) × (j < k) × (walk-along next j e ≡ y)) ⊎ (getD m′ y 0 ≡ getD m y 0)
   pub not-yet : (j : ℕ) → j < k → walk-along next (suc j) e ≡ e → ⊥
 
+-- the same, with nothing but the two values for the start
+abbrev pub OnWay : List ℕ → List ℕ → List ℕ → ℕ → ℕ → ℕ → Type 0
+OnWay next m m′ e k at = (k ≡ 0 → (at ≡ e) × (m′ ≡ m)) × (0 < k → Going next m m′ e k at)
+
 -- once around, and back at e
 pub record Ringed (next m m′ : List ℕ) (e : ℕ) : Type 0 where
   pub last : ℕ
@@ -37,6 +41,12 @@ going-start next m e = record {
     each = λ y. inr refl;
     not-yet = λ j h q. omega arith
   }
+
+pub going-on : (next m m′ : List ℕ) (e k at : ℕ) → OnWay next m m′ e k at → Going next m m′ e k at
+going-on next m m′ e zero at w =
+    let h = w .0 refl in
+    rw (h .0, h .1) (going-start next m e)
+going-on next m m′ e (suc k) at w = w .1 (omega arith)
 
 module _ (next m m′ : List ℕ) (e k at : ℕ) (G : Going next m m′ e k at) (below : at < length next) (len : length m ≡ length next) where
   at-mark : getD (set m′ at 65535) at 0 ≡ 65535
@@ -66,8 +76,8 @@ module _ (next m m′ : List ℕ) (e k at : ℕ) (G : Going next m m′ e k at) 
   unfolding step
   step-is = walk-suc next k e ∙ ap (step next) (G .here) ∙ getD-default next at (length next) 0 below
 
-  pub going-more : (getD next at 0 ≡ e → ⊥) → Going next m (set m′ at 65535) e (k + 1) (getD next at 0)
-  going-more other = rw add-one (record {
+  pub going-more : (getD next at 0 ≡ e → ⊥) → OnWay next m (set m′ at 65535) e (k + 1) (getD next at 0)
+  going-more other = (λ z. absurd (omega arith), λ z. rw add-one (record {
       same-length = length-set m′ at 65535 ∙ G .same-length;
       here = step-is;
       new = more-new;
@@ -76,7 +86,7 @@ module _ (next m m′ : List ℕ) (e k at : ℕ) (G : Going next m m′ e k at) 
           [ inl r ↦ other (sym step-is ∙ ap (λ n. walk-along next (suc n) e) (sym r) ∙ q)
           | inr r ↦ G .not-yet j (omega arith) q
           ]
-    })
+    }))
 
   pub going-back : k < length next → getD next at 0 ≡ e → Ringed next m (set m′ at 65535) e
   going-back few q = record {

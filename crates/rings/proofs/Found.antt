@@ -9,14 +9,16 @@ use lib.Dec.{eqb, ltb}
 use lib.ListN.{length, getD, replicate, length-replicate, getD-replicate}
 use Rattle.std.proofs.shelf.Tests.{cases-bool, cases-eq, cases-lt, eq-eqb, ne-eqb, lt-ltb, both-ways}
 use Rattle.rings.specs.Ring.{step, walk-along, back, on-ring-of}
-use Rattle.rings.specs.Walk.{Walked, Told}
+use Rattle.rings.specs.Walk.{Walked, Told, unmet, has-mark}
 use Rattle.rings.proofs.Steps.{walk-suc, walk-then, came-in, step-past, back-from, back-gives}
+use Rattle.rings.proofs.Marks.{unmet-most}
 use Rattle.rings.proofs.Around.{Ringed}
 
 -- the marks after the walks from the traders below i: they are marked, with them all to whom their walks lead, and nobody
 -- who is on no ring has the mark of a ring
 pub record Half (next m : List ℕ) (i : ℕ) : Type 0 where
   pub same-length : length m ≡ length next
+  pub few : unmet m ≤ length next
   pub met : (j : ℕ) → j < i → getD m j 0 ≡ 0 → ⊥
   pub closed : (y : ℕ) → y < length next → step next y < length next → (getD m y 0 ≡ 0 → ⊥) → getD m (step next y) 0 ≡ 0 → ⊥
   pub ring : (y : ℕ) → y < length next → getD m y 0 ≡ 65535 → (k : ℕ) × (k < length next) × (walk-along next (suc k) y ≡ y)
@@ -27,10 +29,14 @@ pub record Done (next m : List ℕ) (i : ℕ) : Type 0 where
   pub half : Half next m i
   pub none : (y : ℕ) → y < length next → (getD m y 0 ≡ 0 → ⊥) → (getD m y 0 ≡ 65535 → ⊥) → (k : ℕ) → walk-along next (suc k) y ≡ y → ⊥
 
+few-unmet : (next m : List ℕ) → length m ≡ length next → unmet m ≤ length next
+few-unmet next m e = let u = unmet-most m in omega arith
+
 pub done-start : (next : List ℕ) → Done next (replicate (length next) 0) 0
 done-start next = record {
     half = record {
       same-length = length-replicate {A = ℕ} (length next) 0;
+      few = few-unmet next (replicate (length next) 0) (length-replicate {A = ℕ} (length next) 0);
       met = λ j h e. omega arith;
       closed = λ y h s q e. q (getD-replicate {A = ℕ} (length next) y 0 0 h);
       ring = λ y h e. absurd (let z = getD-replicate {A = ℕ} (length next) y 0 0 h in omega arith);
@@ -44,6 +50,7 @@ pub done-skip : (next m : List ℕ) (i : ℕ) → Done next m i → (getD m i 0 
 done-skip next m i D h = record {
     half = record {
       same-length = D .half .same-length;
+      few = D .half .few;
       met = λ j l e. elim (cases-eq j i)
           [ inl q ↦ h (rw q at e)
           | inr q ↦ D .half .met j (omega arith) e
@@ -105,6 +112,7 @@ module _ (next m m′ : List ℕ) (i e s : ℕ) (D : Done next m i) (W : Walked 
   pub walked-half : i < length next → length next ≤ 4000 → Half next m′ (i + 1)
   walked-half below most = record {
       same-length = W .same-length ∙ D .half .same-length;
+      few = few-unmet next m′ (W .same-length ∙ D .half .same-length);
       met = λ j l z. elim (W .each j)
           [ inl t ↦ let u = way-mark j t in omega arith
           | inr q ↦ elim (cases-eq j i)
@@ -205,6 +213,7 @@ module _ (next m m′ : List ℕ) (i e s : ℕ) (D : Done next m i) (W : Walked 
       ringed-half : Half next m″ (i + 1)
       ringed-half = record {
           same-length = R .same-length ∙ H .same-length;
+          few = few-unmet next m″ (R .same-length ∙ H .same-length);
           met = λ j l z. elim (R .each j)
               [ inl t ↦ let u = ring-mark j t in omega arith
               | inr q ↦ H .met j l (sym q ∙ z)

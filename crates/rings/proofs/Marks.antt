@@ -5,12 +5,12 @@ use mathlib.Core.List.{List, [], _∷_}
 use mathlib.Core.Logic.{_⊎_, inl, inr, _≢_}
 use Prim.Native.Nat.{ℕ, zero, suc, _+_, _≤_, _<_}
 use native.Mathlib.Omega.{arith}
-use lib.Dec.{eqb}
+use lib.Dec.{eqb, ltb}
 use lib.ListN.{length, getD, set}
 use Rattle.std.proofs.shelf.Lists.{getD-default, getD-set-same, getD-set-other, length-set}
-use Rattle.std.proofs.shelf.Tests.{cases-bool, cases-eq, eqb-true, eq-eqb, ne-eqb}
+use Rattle.std.proofs.shelf.Tests.{cases-bool, cases-eq, eqb-true, eq-eqb, ne-eqb, ltb-true, lt-ltb, and-parts, and-from, both-ways}
 use Rattle.rings.specs.Ring.{step, walk-along}
-use Rattle.rings.specs.Walk.{unmet, Walked}
+use Rattle.rings.specs.Walk.{unmet, has-mark, Walked}
 
 pub unmet-most : (m : List ℕ) → unmet m ≤ length m
 unfolding unmet
@@ -100,3 +100,12 @@ unfolding step
 walked-on next m m′ w at e k k′ len below zero-mark pos less W =
     walked-more next m m′ w at e k k′ len below zero-mark pos less
     (subst (λ to. Walked next (set m at w) m′ w to e k) (getD-default next at 0 (length next) below) W)
+
+pub has-mark-parts : (m : List ℕ) (t k : ℕ) → true ≡ has-mark m t k → (t < length m) × (getD m t 0 ≡ k)
+has-mark-parts m t k h =
+    let p = and-parts (ltb t (length m)) (eqb (getD m t 0) k) (sym h) in
+    (ltb-true t (length m) (p .0), eqb-true (getD m t 0) k (p .1))
+
+pub has-mark-not : (m : List ℕ) (t k : ℕ) → false ≡ has-mark m t k → t < length m → getD m t 0 ≡ k → ⊥
+has-mark-not m t k h l e =
+    both-ways (has-mark m t k) (sym h) (and-from (ltb t (length m)) (eqb (getD m t 0) k) (lt-ltb t (length m) l) (eq-eqb (getD m t 0) k e))

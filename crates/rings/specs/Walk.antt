@@ -4,11 +4,15 @@ use mathlib.Core.Bool.{Bool, true, false, cond, _&&_}
 use mathlib.Core.List.{List, [], _∷_, map}
 use mathlib.Core.Logic.{_⊎_}
 use Prim.Native.Nat.{ℕ, zero, suc, _+_, _≤_, _<_}
-use lib.Dec.{eqb}
+use lib.Dec.{eqb, ltb}
 use lib.ListN.{length, getD}
 use lib.Seq.{paste}
 use Rattle.std.specs.Iters.{counting}
 use Rattle.rings.specs.Ring.{walk-along, on-ring-of}
+
+-- trader t exists, and has the mark k
+abbrev pub has-mark : List ℕ → ℕ → ℕ → Bool
+has-mark marks t k = ltb t (length marks) && eqb (getD marks t 0) k
 
 -- how many traders nobody has met: those whose mark is 0
 unfoldable pub unmet : List ℕ → ℕ

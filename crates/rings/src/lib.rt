@@ -1,8 +1,8 @@
 // Who is on a ring: each trader points to the stand of another, and a walk along the stands pointed to leads back to some.
-ghost use Prim.Native.Nat.{_*_, _<_, _≤_};
+ghost use Prim.Native.Nat.{_*_, _+_, _<_, _≤_};
 ghost use Rattle.rings.specs.Ring.{answer, left-by};
-ghost use Rattle.rings.specs.Walk.{Told, Walked, flagged, unmet};
-ghost use lib.ListN.{length};
+ghost use Rattle.rings.specs.Walk.{Told, Walked, flag-of, flagged, has-mark, unmet};
+ghost use lib.ListN.{length, set};
 ghost use mathlib.Core.Path.{_≡_};
 use lists::refusals::Lent;
 use lists::refusals::Refusal;
@@ -42,13 +42,13 @@ fn mark_all(next: &[u16], marks: &mut [u16])
     marks.fill(UNMET);
     let n = next.len() as u16;
     'traders: for start in 0..n {
-        if marks[start as usize] != UNMET {
+        if !has_mark(marks, start, UNMET) {
             continue 'traders;
         }
         let walker = start + 1;
         let met = walk(next, marks, walker, start, n);
         // a walk that ends at nobody, or on the way of a walk before, has found no ring
-        if met >= n || marks[met as usize] != walker {
+        if !has_mark(marks, met, walker) {
             continue 'traders;
         }
         let mut at = met;
@@ -69,23 +69,37 @@ fn walk(next: &[u16], marks: &mut [u16], walker: u16, at: u16, steps: u16) -> u1
     requires enough { ⌜ unmet (now marks) ≤ steps ⌝ }
     ensures { λ r. ⌜ Walked (now (next .entry)) (now (marks .entry)) (now (marks .exit)) walker at r steps ⌝ }
 {
-    let who = at as usize;
-    if steps == 0 || who >= next.len() || marks[who] != UNMET {
+    if steps == 0 || !has_mark(marks, at, UNMET) {
         return at;
     }
-    marks[who] = walker;
-    walk(next, marks, walker, next[who], steps - 1)
+    marks[at as usize] = walker;
+    walk(next, marks, walker, next[at as usize], steps - 1)
 }
 
-// Turns the n marks into flags: 1 for a trader who is in and on a ring.
+// The number is a trader's, and not nobody's, and the trader has that mark.
+fn has_mark(marks: &[u16], trader: u16, mark: u16) -> bool
+    ensures { λ r. ⌜ r ≡ has-mark (now (marks .entry)) trader mark ⌝ }
+{
+    (trader as usize) < marks.len() && marks[trader as usize] == mark
+}
+
+// Turns the n marks into flags.
 fn turn_to_flags(work: &mut [u16], n: usize)
     requires { ⌜ 2 * n ≤ length (now work) ⌝ }
     ensures { λ _. ⌜ now (work .exit) ≡ flagged n (now (work .entry)) ⌝ }
 {
     for i in 0..n {
-        let on_ring = work[i] == 1 && work[n + i] == RING;
-        work[n + i] = if on_ring { 1 } else { 0 };
+        turn_to_flag(work, n, i);
     }
+}
+
+// Turns one trader's mark into the flag: 1 for a trader who is in and on a ring.
+fn turn_to_flag(work: &mut [u16], n: usize, i: usize)
+    requires { ⌜ n + i < length (now work) ⌝ }
+    ensures { λ _. ⌜ now (work .exit) ≡ set (now (work .entry)) (n + i) (flag-of (now (work .entry)) n i) ⌝ }
+{
+    let on_ring = work[i] == 1 && work[n + i] == RING;
+    work[n + i] = if on_ring { 1 } else { 0 };
 }
 
 #[cfg(test)]

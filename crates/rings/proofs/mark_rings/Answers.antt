@@ -9,5 +9,5 @@ pub returns : need.returns
 returns c = record {
     answer = search needs;
     work = left-is (c .args .next .now) (c .args .work .now) (c .mark-all .last .marks) (c .turn-to-flags .last .work)
-        (2 * length (c .args .next .now) - length (c .args .next .now)) (c .if-work-n .left) (omega arith) (c .mark-all .ensures) (c .turn-to-flags .ensures)
+        (2 * length (c .args .next .now) - length (c .args .next .now)) (omega arith) (omega arith) (c .mark-all .ensures) (c .turn-to-flags .ensures)
   }

@@ -1,5 +1,4 @@
-use borrow.Author.Needs.{needs}
-use mathlib.Core.Path.{_≡_, refl, sym, _∙_, ap}
+use mathlib.Core.Path.{_≡_, refl, _∙_, ap}
 use mathlib.Core.List.{map}
 use native.Mathlib.Omega.{arith}
 use lib.Seq.{paste}
@@ -13,8 +12,9 @@ loop-i-holds c = flag-start (c .args .work .now) (map (flag-of (c .args .work .n
 
 pub loop-i-again : need.loop-i-again
 loop-i-again c =
-    let v : c .if-on-ring .work ≡ flag-of (c .loop-i .work) (c .args .n) (c .loop-i .i) = search needs in
-    flag-more (c .args .work .now) (c .loop-i .work) (c .args .n) (c .loop-i .i) (c .if-on-ring .work) (c .pre) (c .loop-i-test .taken) (c .loop-i .inv) v
+    c .turn-to-flag .ensures
+    ∙ flag-more (c .args .work .now) (c .loop-i .work) (c .args .n) (c .loop-i .i) (flag-of (c .loop-i .work) (c .args .n) (c .loop-i .i))
+        (c .pre) (c .loop-i-test .taken) (c .loop-i .inv) refl
 
 pub returns : need.returns
 unfolding flagged
