@@ -1,0 +1,73 @@
+-- Where `next` says to whom each trader who is in points, the rings of `next` are the rings of the exchange.
+use mathlib.Core.Path.{_≡_, refl, sym, _∙_, ap, ap₂}
+use mathlib.Core.Bool.{Bool, true, false, cond, _&&_}
+use mathlib.Core.List.{List, [], _∷_}
+use mathlib.Core.Logic.{_⊎_, inl, inr}
+use Prim.Native.Nat.{ℕ, zero, suc, _+_, _≤_, _<_}
+use native.Mathlib.Omega.{arith}
+use lib.Dec.{eqb, ltb}
+use lib.ListN.{length, getD}
+use Rattle.std.proofs.shelf.Lists.{getD-past, getD-default}
+use Rattle.std.proofs.shelf.Counted.{getD-map-counting}
+use Rattle.std.proofs.shelf.Tests.{cases-bool, cases-lt, lt-ltb, both-ways}
+use Rattle.lists.specs.Trade.{Lists, Standing, is-in, first-in, points, walk, comes-back, on-ring}
+use Rattle.rings.specs.Ring.{step, walk-along, back, on-ring-of, flag, ring-flags}
+
+-- nobody past the last trader is in
+in-below : (s : Standing) (t : ℕ) → is-in s t ≡ true → t < length (s .inside)
+unfolding is-in
+in-below s t h =
+    elim (cases-lt t (length (s .inside)))
+    [ inl l ↦ l
+    | inr l ↦ absurd (both-ways true (sym h ∙ ap (λ v. eqb v 1) (getD-past (s .inside) t 0 l)) refl)
+    ]
+
+-- a trader who is in points to one who is in
+first-in-in : (s : Standing) (ts : List ℕ) (i : ℕ) → is-in s i ≡ true → is-in s (first-in s ts i) ≡ true
+unfolding first-in
+first-in-in s [] i h = h
+first-in-in s (t ∷ ts) i h =
+    elim (cases-bool (is-in s t))
+    [ inl e ↦ rw e e
+    | inr e ↦ rw e (first-in-in s ts i h)
+    ]
+
+points-in : (ls : Lists) (s : Standing) (i : ℕ) → is-in s i ≡ true → is-in s (points ls s i) ≡ true
+unfolding points
+points-in ls s i h = first-in-in s (getD ls i []) i h
+
+-- `next` says to whom each trader who is in points
+abbrev pub Follows : Lists → Standing → List ℕ → Type 0
+Follows ls s next = (i : ℕ) → i < length ls → is-in s i ≡ true → getD next i 0 ≡ points ls s i
+
+module _ (ls : Lists) (s : Standing) (next : List ℕ) (n-next : length next ≡ length ls) (n-in : length (s .inside) ≡ length ls) (F : Follows ls s next) where
+  step-same : (i : ℕ) → is-in s i ≡ true → step next i ≡ points ls s i
+  unfolding step
+  step-same i h =
+      let l : i < length ls = let b = in-below s i h in omega arith in
+      getD-default next i (length next) 0 (omega arith) ∙ F i l h
+
+  walk-same : (k i : ℕ) → is-in s i ≡ true → walk-along next k i ≡ walk ls s k i
+  unfolding walk-along walk
+  walk-same zero i h = refl
+  walk-same (suc k) i h = ap (walk-along next k) (step-same i h) ∙ walk-same k (points ls s i) (points-in ls s i h)
+
+  back-same : (k i : ℕ) → is-in s i ≡ true → back next i k ≡ comes-back ls s i k
+  unfolding back comes-back
+  back-same zero i h = refl
+  back-same (suc k) i h = let ih = back-same k i h in let w = walk-same (suc k) i h in rw (w, ih)
+
+  pub ring-law : (i : ℕ) → i < length ls → is-in s i ≡ true → on-ring-of next i ≡ comes-back ls s i (length ls)
+  unfolding on-ring-of
+  ring-law i l h =
+      let b : ltb i (length next) ≡ true = lt-ltb i (length next) (omega arith) in
+      rw b (ap (back next i) n-next ∙ back-same (length ls) i h)
+
+  pub flag-law : (i : ℕ) → i < length ls → getD (ring-flags (s .inside) next) i 0 ≡ cond (on-ring ls s i) 1 0
+  unfolding ring-flags flag on-ring is-in
+  flag-law i l =
+      getD-map-counting (flag (s .inside) next) 0 (length next) i i 0 (omega arith) (omega arith)
+      ∙ elim (cases-bool (is-in s i))
+        [ inl h ↦ let r = ring-law i l h in rw (h, r)
+        | inr h ↦ rw h
+        ]

@@ -1,0 +1,6 @@
+pub mod Steps
+pub mod Marks
+pub mod Around
+pub mod Found
+pub mod Flags
+pub mod Law
