@@ -1,0 +1,9 @@
+use Prim.Native.Nat.{_*_}
+use mathlib.Core.Path.{_≡_}
+use lib.ListN.{drop}
+use Rattle.lists.specs.Format.{numbers}
+use Rattle.pointing.specs.Pointing.{points-from}
+use Rattle.pointing.proofs.point_to.Given as given
+
+abbrev pub Inv-loop-place : given.InvT-loop-place
+Inv-loop-place l = points-from (l .inside) (numbers (drop (2 * l .place) (l .list))) (l .place) ≡ points-from (l .inside) (numbers (l .list)) 0
