@@ -10,7 +10,7 @@ use lib.Dec.{eqb}
 use lib.ListN.{length, getD, drop, length-drop}
 use Rattle.std.proofs.shelf.Tests.{cases-bool}
 use Rattle.std.proofs.shelf.Lists.{drop-more}
-use Rattle.lists.specs.Format.{numbers}
+use Rattle.lists.specs.Format.{number-at, numbers}
 use Rattle.lists.specs.Trade.{Standing, is-in, first-in}
 use Rattle.pointing.specs.declared.Pointing.{Pointing}
 use Rattle.pointing.specs.declared.Pointing.the-variants.{Listed, Own}
@@ -33,27 +33,30 @@ numbers-none [] h = refl
 numbers-none (x ∷ []) h = refl
 numbers-none (x ∷ y ∷ xs) h = absurd (omega arith)
 
+-- one place of the list
+abbrev pub Step : List ℕ → List ℕ → ℕ → Pointing → Type 0
+Step inside xs p whole =
+    2 * p + 1 < length xs →
+    whole
+    ≡ cond (eqb (getD inside (number-at xs (2 * p)) 0) 1) (Listed p (number-at xs (2 * p)))
+    (points-from inside (numbers (drop (2 * (p + 1)) xs)) (p + 1))
+
 module _ (inside xs : List ℕ) (p : ℕ) (whole : Pointing) (so-far : points-from inside (numbers (drop (2 * p) xs)) p ≡ whole) where
-  pub step : (t : ℕ) → 2 * p + 1 < length xs → t ≡ getD xs (2 * p) 0 + 256 * getD xs (2 * p + 1) 0 →
-      whole ≡ cond (eqb (getD inside t 0) 1) (Listed p t) (points-from inside (numbers (drop (2 * (p + 1)) xs)) (p + 1))
+  pub step : Step inside xs p whole
   unfolding points-from
-  step t h is =
-      let e = numbers-step xs p h in
-      sym so-far ∙ (ap (λ ts. points-from inside ts p) e ∙ rw (← is, add-one p))
-
-  pub found : (t : ℕ) → 2 * p + 1 < length xs → t ≡ getD xs (2 * p) 0 + 256 * getD xs (2 * p + 1) 0 →
-      eqb (getD inside t 0) 1 ≡ true → Listed p t ≡ whole
-  found t h is e = sym (step t h is ∙ rw e)
-
-  pub next : (t : ℕ) → 2 * p + 1 < length xs → t ≡ getD xs (2 * p) 0 + 256 * getD xs (2 * p + 1) 0 →
-      eqb (getD inside t 0) 1 ≡ false → points-from inside (numbers (drop (2 * (p + 1)) xs)) (p + 1) ≡ whole
-  next t h is e = sym (step t h is ∙ rw e)
+  step h = sym so-far ∙ (ap (λ ts. points-from inside ts p) (numbers-step xs p h) ∙ rw (add-one p))
 
   pub end : length xs < 2 * p + 2 → whole ≡ Own
   unfolding points-from
   end h =
       let few : length (drop (2 * p) xs) < 2 = rw length-drop (omega arith) in
       sym so-far ∙ rw (numbers-none (drop (2 * p) xs) few)
+
+pub next : (inside xs : List ℕ) (p t : ℕ) (whole : Pointing) → Step inside xs p whole → 2 * p + 1 < length xs →
+    t ≡ number-at xs (2 * p) → eqb (getD inside t 0) 1 ≡ false → points-from inside (numbers (drop (2 * (p + 1)) xs)) (p + 1) ≡ whole
+next inside xs p t whole st h is e =
+    let e′ : eqb (getD inside (number-at xs (2 * p)) 0) 1 ≡ false = rw is at e in
+    sym (st h ∙ rw e′)
 
 -- the stand pointed to is the exchange's
 pub exchange-points : (s : Standing) (ts : List ℕ) (own p : ℕ) → stand-of own (points-from (s .inside) ts p) ≡ first-in s ts own
