@@ -1,2 +1,4 @@
+pub mod Accepted
+pub mod Encoding
 pub mod Faults
 pub mod Positions

@@ -86,6 +86,10 @@ fault bs =
     (cond (ltb 0 (number-at bs 0) && ltb (number-at bs 0) 4001) (lists-fault bs (number-at bs 0) 0 (number-at bs 0) 2)
     (Some WrongCount))
 
+-- the bytes are accepted, and the list of trader i begins at p
+abbrev pub Begins : List ℕ → ℕ → ℕ → Type 0
+Begins bs i p = (fault bs ≡ None) × (i < number-at bs 0) × (p ≡ start bs i)
+
 -- the answer of a call that is refused by a fault, if there is one
 abbrev pub unless : {A : Type 0} → Option Refusal → A → Result A Refusal
 unless (Some f) a = Err f

@@ -7,7 +7,7 @@ ghost use mathlib.Core.List.{List, []};
 ghost use mathlib.Core.Path.{_≡_};
 ghost use Rattle.std.specs.declared.option.Option.the-variants.{Some, None};
 ghost use Rattle.std.specs.Options.{Cases as BySome};
-ghost use Rattle.lists.specs.Format.{fault, list-bytes, list-fault, next-start, number-at, stands-fault, start, unless};
+ghost use Rattle.lists.specs.Format.{Begins, fault, list-bytes, list-fault, lists-of, next-start, number-at, numbers, stands-fault, start, unless};
 use crate::refusals::Refusal;
 
 const MOST_TRADERS: u16 = 4000;
@@ -109,6 +109,7 @@ pub fn start_of(bytes: &[u8], trader: u16) -> usize
 // In accepted bytes that is trader i's list, for every trader i whose list begins there.
 pub fn list_at(bytes: &[u8], at: usize) -> Option<&[u8]>
     ensures part { λ r. ⌜ BySome r (length (now (bytes .entry)) < next-start (now (bytes .entry)) at) (λ s. (now s ≡ list-bytes (now (bytes .entry)) at) × (next-start (now (bytes .entry)) at ≤ length (now (bytes .entry)))) ⌝ }
+    ensures list { λ r. ⌜ ((i : ℕ) → Begins (now (bytes .entry)) i at → BySome r ⊥ (λ s. numbers (now s) ≡ getD (lists-of (now (bytes .entry))) i [])) ⌝ }
 {
     if at >= bytes.len() {
         return None;
