@@ -17,9 +17,9 @@ use Rattle.rings.specs.Ring.{step, walk-along, back, on-ring-of, flag, ring-fl
 in-below : (s : Standing) (t : ℕ) → is-in s t ≡ true → t < length (s .inside)
 unfolding is-in
 in-below s t h =
-    elim (cases-lt t (length (s .inside)))
-    [ inl l ↦ l
-    | inr l ↦ absurd (both-ways true (sym h ∙ ap (λ v. eqb v 1) (getD-past (s .inside) t 0 l)) refl)
+    elim (cases-lt t (length (s .inside))) [
+      | inl l ↦ l
+      | inr l ↦ absurd (both-ways true (sym h ∙ ap (λ v. eqb v 1) (getD-past (s .inside) t 0 l)) refl)
     ]
 
 -- a trader who is in points to one who is in
@@ -27,9 +27,9 @@ first-in-in : (s : Standing) (ts : List ℕ) (i : ℕ) → is-in s i ≡ true �
 unfolding first-in
 first-in-in s [] i h = h
 first-in-in s (t ∷ ts) i h =
-    elim (cases-bool (is-in s t))
-    [ inl e ↦ rw e e
-    | inr e ↦ rw e (first-in-in s ts i h)
+    elim (cases-bool (is-in s t)) [
+      | inl e ↦ rw e e
+      | inr e ↦ rw e (first-in-in s ts i h)
     ]
 
 points-in : (ls : Lists) (s : Standing) (i : ℕ) → is-in s i ≡ true → is-in s (points ls s i) ≡ true
@@ -67,7 +67,7 @@ module _ (ls : Lists) (s : Standing) (next : List ℕ) (n-next : length next ≡
   unfolding ring-flags flag on-ring is-in
   flag-law i l =
       getD-map-counting (flag (s .inside) next) 0 (length next) i i 0 (omega arith) (omega arith)
-      ∙ elim (cases-bool (is-in s i))
-        [ inl h ↦ let r = ring-law i l h in rw (h, r)
+      ∙ elim (cases-bool (is-in s i)) [
+        | inl h ↦ let r = ring-law i l h in rw (h, r)
         | inr h ↦ rw h
-        ]
+      ]

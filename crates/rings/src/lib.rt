@@ -104,12 +104,12 @@ fn turn_to_flag(work: &mut [u16], n: usize, i: usize)
 
 #[cfg(test)]
 mod tests {
+    use super::mark_rings;
     use lists::refusals::Lent;
     use lists::refusals::Refusal;
     use lists::refusals::RefusalDebug;
     use lists::refusals::RefusalPartialEq;
     use std::test::*;
-    use super::mark_rings;
 
     // three in a ring
     #[test]

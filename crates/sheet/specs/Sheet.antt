@@ -1,0 +1,86 @@
+-- A sheet says for each trader, in the order of numbers, the stand that it got and the round in which it went out, from 0:
+-- two bytes each, low byte first. It shows that an exchange went right, to anybody who has the lists.
+use mathlib.Core.Path.{_≡_}
+use mathlib.Core.Bool.{Bool, true, false, cond, _&&_, _||_, not}
+use mathlib.Core.List.{List, [], _∷_, _++_}
+use Prim.Native.Nat.{ℕ, zero, suc, _+_, _*_, _<_}
+use lib.Dec.{eqb, ltb}
+use lib.ListN.{length, getD}
+use Rattle.std.specs.Iters.{counting}
+use Rattle.std.specs.Joined.{joined}
+use Rattle.std.specs.declared.option.Option.{Option}
+use Rattle.std.specs.declared.option.Option.the-variants.{Some, None}
+use Rattle.lists.specs.declared.refusals.Refusal.{Refusal}
+use Rattle.lists.specs.declared.refusals.Refusal.the-variants.{SheetLength, StandTaken, DearerLater, HolderElsewhere}
+use Rattle.lists.specs.Certificate.{Valid-sheet}
+use Rattle.lists.specs.Format.{bytes-of, fault, lists-of, number-at, or-else}
+use Rattle.lists.specs.Promise.{Proper}
+use Rattle.lists.specs.Trade.{Lists, out, result}
+
+-- the stand that trader i got, and the round in which it went out
+abbrev pub stand-in : List ℕ → ℕ → ℕ
+stand-in sheet i = number-at sheet (4 * i)
+
+abbrev pub round-in : List ℕ → ℕ → ℕ
+round-in sheet i = number-at sheet (4 * i + 2)
+
+-- the sheet of the exchange
+abbrev pub entry : Lists → ℕ → List ℕ
+entry ls i = bytes-of (result ls i) ++ bytes-of (out ls i)
+
+unfoldable pub sheet-of : Lists → List ℕ
+sheet-of ls = joined (entry ls) (counting 0 (length ls))
+
+-- one of the first k traders got stand t
+unfoldable pub got-before : List ℕ → ℕ → ℕ → Bool
+got-before sheet zero t = false
+got-before sheet (suc k) t = eqb (stand-in sheet k) t || got-before sheet k t
+
+-- the stand that trader i got exists, and no trader before got it
+abbrev pub taken-fault : List ℕ → ℕ → ℕ → Option Refusal
+taken-fault sheet n i =
+    cond (ltb (stand-in sheet i) n && not (got-before sheet i (stand-in sheet i))) None (Some (StandTaken i))
+
+-- the holders of the stands ts of trader i's list, from `place` on, went out before trader i, up to the stand that it got.
+-- A stand that is not listed is less dear than the own one, whose holder, trader i, did not go out before itself.
+unfoldable pub dearer-fault : List ℕ → ℕ → List ℕ → ℕ → Option Refusal
+dearer-fault sheet i [] place = cond (eqb (stand-in sheet i) i) None (Some (DearerLater i place))
+dearer-fault sheet i (t ∷ ts) place =
+    cond (eqb t (stand-in sheet i)) None
+    (cond (ltb (round-in sheet t) (round-in sheet i)) (dearer-fault sheet i ts (suc place)) (Some (DearerLater i place)))
+
+-- the holder of the stand that trader i got went out in the same round
+abbrev pub holder-fault : List ℕ → ℕ → Option Refusal
+holder-fault sheet i =
+    cond (eqb (round-in sheet (stand-in sheet i)) (round-in sheet i)) None (Some (HolderElsewhere i))
+
+unfoldable pub trader-fault : Lists → List ℕ → ℕ → Option Refusal
+trader-fault ls sheet i =
+    or-else (taken-fault sheet (length ls) i) (or-else (dearer-fault sheet i (getD ls i []) 0) (holder-fault sheet i))
+
+-- the first fault of k traders from trader i on
+unfoldable pub traders-fault : Lists → List ℕ → ℕ → ℕ → Option Refusal
+traders-fault ls sheet i zero = None
+traders-fault ls sheet i (suc k) = or-else (trader-fault ls sheet i) (traders-fault ls sheet (suc i) k)
+
+-- the sheet has an entry for each trader, and no more
+abbrev pub length-fault : Lists → List ℕ → Option Refusal
+length-fault ls sheet = cond (eqb (length sheet) (4 * length ls)) None (Some (SheetLength (length sheet)))
+
+-- The first fault of a sheet for the lists ls; None where it is accepted.
+abbrev pub sheet-fault : Lists → List ℕ → Option Refusal
+sheet-fault ls sheet = or-else (length-fault ls sheet) (traders-fault ls sheet 0 (length ls))
+
+-- The first fault of the bytes of a year and of a sheet for it.
+abbrev pub check-fault : List ℕ → List ℕ → Option Refusal
+check-fault bs sheet = or-else (fault bs) (sheet-fault (lists-of bs) sheet)
+
+-- the stands and the rounds of a sheet of the right length are valid for the lists
+abbrev pub Valid : Lists → List ℕ → Type 0
+Valid ls sheet = (length sheet ≡ 4 * length ls) × Valid-sheet ls (stand-in sheet) (round-in sheet)
+
+-- A sheet is accepted exactly if it is valid.
+abbrev pub Accepts-exactly : Type 0
+Accepts-exactly =
+    (ls : Lists) (sheet : List ℕ) → Proper ls →
+    (sheet-fault ls sheet ≡ None → Valid ls sheet) × (Valid ls sheet → sheet-fault ls sheet ≡ None)
