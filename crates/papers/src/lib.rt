@@ -1,0 +1,2 @@
+// A trader's paper: it shows the ring, and that nobody passed the trader over, to whoever has that trader's list.
+pub mod checking;
