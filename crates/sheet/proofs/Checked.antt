@@ -208,3 +208,14 @@ checked bs sheet r e =
           let all : check-fault bs sheet ≡ None = rw (good, none) in
           some-not-none f (sym bad ∙ all));
     }
+
+-- the lists are accepted, and the faults of the sheet are found one after the other
+module _ (bs sheet : List ℕ) (n : ℕ) (accepted : fault bs ≡ None) (count : n ≡ number-at bs 0) where
+  length-same : length-fault (length (lists-of bs)) sheet ≡ length-fault n sheet
+  length-same = rw (count-of-lists bs, count)
+
+  pub length-wrong : (f : Refusal) → length-fault n sheet ≡ Some f → check-fault bs sheet ≡ Some f
+  length-wrong f e = rw (accepted, length-same, e)
+
+  pub length-right : length-fault n sheet ≡ None → check-fault bs sheet ≡ traders-fault (lists-of bs) sheet 0 n
+  length-right e = rw (accepted, length-same, e, count-of-lists bs, count)
