@@ -78,11 +78,19 @@ head-bytes sheet n i = bytes-of i ++ (bytes-of (round-in sheet i) ++ (bytes-of (
 abbrev pub dearer-bytes : List ℕ → List ℕ → List ℕ
 dearer-bytes sheet ts = length ts ∷ gone-bytes sheet ts
 
+-- the paper of trader i among n traders, whose list names the stands l
+unfoldable pub paper-for : List ℕ → ℕ → ℕ → List ℕ → List ℕ
+paper-for sheet n i l = head-bytes sheet n i ++ (encode-stands (ring-of sheet n i) ++ dearer-bytes sheet (dearer-than (stand-in sheet i) l))
+
 -- The paper of trader i.
-unfoldable pub paper-of : Lists → List ℕ → ℕ → List ℕ
-paper-of ls sheet i =
-    head-bytes sheet (length ls) i
-    ++ (encode-stands (ring-of sheet (length ls) i) ++ dearer-bytes sheet (dearer-than (stand-in sheet i) (getD ls i [])))
+abbrev pub paper-of : Lists → List ℕ → ℕ → List ℕ
+paper-of ls sheet i = paper-for sheet (length ls) i (getD ls i [])
+
+-- ---- writing
+
+-- what a slice holds after xs is written into it from byte `at` on
+abbrev pub written : ℕ → List ℕ → List ℕ → List ℕ
+written at xs before = take at before ++ (xs ++ drop (at + length xs) before)
 
 -- ---- why no paper is written
 

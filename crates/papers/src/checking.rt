@@ -10,6 +10,8 @@ ghost use Rattle.std.specs.Results.{Cases as ByOk};
 ghost use Rattle.lists.specs.Format.{length-fault as count-of-list-fault, list-bytes, member, next-start, number-at, numbers, stand-fault as listed-fault, stands-fault, unless};
 ghost use Rattle.papers.specs.Paper.{count-on, count-place, dearer-than, gone-on, holder-on, own-on, ring-length, ring-on, round-on, stand-on};
 ghost use Rattle.papers.specs.Faults.{count-fault, dearer-fault, end-fault, fields-fault, gone-fault, head-fault, holder-fault, length-fault, member-fault, own-fault, owner, own-list-fault, paper-check-fault, Read, ring-fault, round-fault, stand-fault, tail-fault};
+use crate::bytes::dearer_count;
+use crate::bytes::number_at;
 use lists::refusals::Refusal;
 
 const MOST_TRADERS: u16 = 4000;
@@ -24,14 +26,6 @@ fn number_in(bytes: &[u8], at: usize) -> Option<u16>
         return None;
     }
     Some(u16::from_le_bytes([bytes[at], bytes[at + 1]]))
-}
-
-// The two-byte number whose first byte is byte `at`, where it is known to be there.
-fn number_at(bytes: &[u8], at: usize) -> u16
-    requires { ⌜ at + 1 < length (now bytes) ⌝ }
-    ensures { λ r. ⌜ r ≡ number-at (now (bytes .entry)) at ⌝ }
-{
-    u16::from_le_bytes([bytes[at], bytes[at + 1]])
 }
 
 // Field 0: whose paper it is.
@@ -55,18 +49,6 @@ fn read_round(paper: &[u8]) -> Result<u16, Refusal>
         return Err(Refusal::PaperFault { field: 1 });
     };
     Ok(round)
-}
-
-// How many stands of a list are dearer than a stand: those before it.
-fn dearer_count(stands: &[u8], stand: u16) -> usize
-    ensures { λ r. ⌜ r ≡ length (dearer-than stand (numbers (now (stands .entry)))) ⌝ }
-{
-    for place in 0..stands.len() / 2 {
-        if number_at(stands, 2 * place) == stand {
-            return place;
-        }
-    }
-    stands.len() / 2
 }
 
 // The list names the stand.

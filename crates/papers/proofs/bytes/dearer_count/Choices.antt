@@ -3,7 +3,7 @@ use mathlib.Core.Path.{_≡_}
 use lib.ListN.{length, drop}
 use Rattle.lists.specs.Format.{numbers}
 use Rattle.papers.specs.Paper.{dearer-than}
-use Rattle.papers.proofs.checking.dearer_count.Given as given
+use Rattle.papers.proofs.bytes.dearer_count.Given as given
 
 abbrev pub Inv-loop-place : given.InvT-loop-place
 Inv-loop-place l =

@@ -1,0 +1,4 @@
+pub mod Checked
+pub mod Dearer
+pub mod Traders
+pub mod Written
