@@ -4,3 +4,7 @@ pub mod Listed
 pub mod Writes
 pub mod Around
 pub mod Sources
+pub mod Orbits
+pub mod Fields
+pub mod Passes
+pub mod Agrees

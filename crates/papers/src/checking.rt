@@ -300,3 +300,80 @@ pub fn check_paper(list: &[u8], paper: &[u8]) -> Result<u16, Refusal>
     let stands = check_list(list, own)?;
     check_fields(stands, paper)
 }
+
+#[cfg(test)]
+mod tests {
+    use super::*;
+    use std::test::*;
+
+    // the list 1 0 of trader 2, whose round is 3 and who keeps its stand: 1 and 0 went out in rounds 0 and 2
+    const LIST: [u8; 5] = [2, 1, 0, 0, 0];
+
+    const KEPT: [u8; 19] = [2, 0, 3, 0, 2, 0, 1, 0, 2, 0, 2, 1, 0, 0, 0, 0, 0, 2, 0];
+
+    // a ring of three: 2 got stand 0, whose holder got stand 5
+    const RING: [u8; 19] = [2, 0, 3, 0, 0, 0, 3, 0, 2, 0, 0, 0, 5, 0, 1, 1, 0, 2, 0];
+
+    // the number and the place of a refusal, or 0 and whose paper it is
+    fn outcome(list: &[u8], paper: &[u8]) -> (u8, usize) {
+        match check_paper(list, paper) {
+            Ok(own) => (0, own as usize),
+            Err(refusal) => (refusal.number(), refusal.place()),
+        }
+    }
+
+    // the paper with another byte at a place
+    fn changed(mut paper: [u8; 19], at: usize, byte: u8) -> (u8, usize) {
+        if at < 19 {
+            paper[at] = byte;
+        }
+        outcome(&LIST, &paper)
+    }
+
+    #[test]
+    fn accepted() -> Result<(), Fail> {
+        check_eq(outcome(&LIST, &KEPT), (0, 2))?;
+        check_eq(outcome(&LIST, &RING), (0, 2))
+    }
+
+    #[test]
+    fn lists_in_fault() -> Result<(), Fail> {
+        check_eq(outcome(&[], &KEPT), (1, 0))?;
+        check_eq(outcome(&[41], &[]), (3, 0))?;
+        check_eq(outcome(&[2, 1, 0, 0], &KEPT), (1, 4))?;
+        check_eq(outcome(&[2, 1, 0, 0, 0, 7], &KEPT), (1, 5))?;
+        check_eq(outcome(&[2, 1, 0, 2, 0], &KEPT), (4, 3))?;
+        check_eq(outcome(&[2, 1, 0, 1, 0], &KEPT), (4, 3))
+    }
+
+    #[test]
+    fn fields_in_fault() -> Result<(), Fail> {
+        check_eq(changed(KEPT, 1, 16), (10, 0))?;
+        check_eq(changed(KEPT, 4, 7), (10, 2))?;
+        check_eq(changed(KEPT, 6, 2), (10, 3))?;
+        check_eq(changed(KEPT, 8, 1), (10, 4))?;
+        check_eq(changed(KEPT, 10, 1), (10, 5))?;
+        check_eq(changed(KEPT, 11, 0), (10, 6))?;
+        check_eq(changed(KEPT, 13, 3), (10, 7))?;
+        check_eq(changed(KEPT, 15, 1), (10, 8))?;
+        check_eq(changed(KEPT, 17, 3), (10, 9))?;
+        // next on the ring is not the holder of the stand got, and a trader twice
+        check_eq(changed(RING, 10, 1), (10, 5))?;
+        check_eq(changed(RING, 12, 2), (10, 6))?;
+        check_eq(changed(RING, 6, 1), (10, 3))
+    }
+
+    #[test]
+    fn papers_of_another_length(rt: LibcRuntime) -> Result<(), Fail> {
+        let mut paper = vec![in rt.alloc(); 2, 0, 0, 0, 1, 0, 2, 0, 2, 0, 1, 0, 0, 5]?;
+        check_eq(outcome(&LIST, paper.as_slice()), (10, 7))?;
+        let _ = paper.pop();
+        check_eq(outcome(&LIST, paper.as_slice()), (0, 2))?;
+        let _ = paper.pop();
+        check_eq(outcome(&LIST, paper.as_slice()), (10, 6))?;
+        let _ = paper.pop();
+        check_eq(outcome(&LIST, paper.as_slice()), (10, 5))?;
+        check_eq(outcome(&LIST, &[2, 0, 0]), (10, 1))?;
+        check_eq(outcome(&LIST, &[]), (10, 0))
+    }
+}

@@ -139,3 +139,42 @@ pub fn paper(bytes: &[u8], sheet: &[u8], trader: u16, out: &mut [u8]) -> Result<
     }
     write_for(sheet, n, trader, stands_of(bytes, trader), out)
 }
+
+#[cfg(test)]
+mod tests {
+    use super::*;
+    use std::test::*;
+
+    // the lists 1 / 2 / 1 0, and the sheet for them
+    const LISTS: [u8; 13] = [3, 0, 1, 1, 0, 1, 2, 0, 2, 1, 0, 0, 0];
+
+    const SHEET: [u8; 12] = [0, 0, 1, 0, 2, 0, 0, 0, 1, 0, 0, 0];
+
+    // the number and the place of a refusal, or 0 and the paper's length
+    fn outcome(answer: Result<usize, Refusal>) -> (u8, usize) {
+        match answer {
+            Ok(length) => (0, length),
+            Err(refusal) => (refusal.number(), refusal.place()),
+        }
+    }
+
+    #[test]
+    fn papers_of_a_year() -> Result<(), Fail> {
+        let mut out = [9u8; 16];
+        check_eq(outcome(paper(&LISTS, &SHEET, 0, &mut out)), (0, 15))?;
+        check_eq(out, [0, 0, 1, 0, 0, 0, 1, 0, 0, 0, 1, 1, 0, 0, 0, 9])?;
+        check_eq(outcome(paper(&LISTS, &SHEET, 1, &mut out)), (0, 13))?;
+        check_eq(out, [1, 0, 0, 0, 2, 0, 2, 0, 1, 0, 2, 0, 0, 0, 0, 9])?;
+        check_eq(outcome(paper(&LISTS, &SHEET, 2, &mut out)), (0, 13))?;
+        check_eq(out, [2, 0, 0, 0, 1, 0, 2, 0, 2, 0, 1, 0, 0, 0, 0, 9])
+    }
+
+    #[test]
+    fn no_paper() -> Result<(), Fail> {
+        let mut out = [9u8; 14];
+        check_eq(outcome(paper(&LISTS, &LISTS, 3, &mut out)), (6, 13))?;
+        check_eq(outcome(paper(&LISTS, &SHEET, 3, &mut out)), (10, 0))?;
+        check_eq(outcome(paper(&LISTS, &SHEET, 0, &mut out)), (5, 0))?;
+        check_eq(out, [9; 14])
+    }
+}
