@@ -1,12 +1,10 @@
 -- The marks turned into flags, and the work slice as the call leaves it.
-use mathlib.Core.Path.{_≡_, refl, sym, _∙_, ap, subst}
-use mathlib.Core.Bool.{Bool, true, false, cond, _&&_}
-use mathlib.Core.List.{List, [], _∷_, _++_, map}
-use mathlib.Core.Logic.{_⊎_, inl, inr}
-use Prim.Native.Nat.{ℕ, zero, suc, _+_, _-_, _*_, _≤_, _<_}
+use mathlib.Core.Path.{_≡_, sym, _∙_, ap}
+use mathlib.Core.List.{List, _++_, map}
+use Prim.Native.Nat.{ℕ, _+_, _*_, _≤_, _<_}
 use native.Mathlib.Omega.{arith}
 use borrow.Author.Needs.{needs}
-use lib.Dec.{eqb, ltb}
+use lib.Dec.{eqb}
 use lib.ListN.{length, getD, set, take, drop}
 use lib.Seq.{paste}
 use Rattle.std.specs.Iters.{counting}
@@ -68,8 +66,8 @@ left-is next w marks w′ k h q T e =
     let F = map (flag-of (putMid (length next) k w marks) (length next)) (counting 0 (length next)) in
     let size : length F ≡ n = length-map-counting (flag-of v n) 0 n in
     let f : F ≡ map (flag (take n w) next) (counting 0 n) =
-        fill-by-all (flag (take n w) next) F n 0 size
-        (λ i l. getD-map-counting (flag-of v n) 0 n i i 0 l (omega arith) ∙ flag-same next w marks k i (omega arith) T l)
+    fill-by-all (flag (take n w) next) F n 0 size
+    (λ i l. getD-map-counting (flag-of v n) 0 n i i 0 l (omega arith) ∙ flag-same next w marks k i (omega arith) T l)
     in
     let t : take n v ≡ take n w = take-putMid-below n k w marks n (omega arith) (omega arith) in
     let d : drop (n + n) v ≡ drop (n + n) w = drop-putMid n k w marks (n + n) (omega arith) (omega arith) (T .same-length ∙ sym q) in

@@ -1,12 +1,12 @@
 -- Walks along `next`: how their steps add up, and what a walk that comes back cannot leave.
-use mathlib.Core.Path.{_≡_, refl, sym, _∙_, ap, subst}
-use mathlib.Core.Bool.{Bool, true, false, cond}
+use mathlib.Core.Path.{_≡_, refl, _∙_, ap, subst}
+use mathlib.Core.Bool.{true}
 use mathlib.Core.List.{List}
-use mathlib.Core.Logic.{_⊎_, inl, inr}
+use mathlib.Core.Logic.{inl, inr}
 use Prim.Native.Nat.{ℕ, zero, suc, _+_, _≤_, _<_}
 use native.Mathlib.Omega.{arith}
 use lib.Dec.{eqb}
-use lib.ListN.{length, getD}
+use lib.ListN.{length}
 use Rattle.std.proofs.shelf.Lists.{getD-past}
 use Rattle.std.proofs.shelf.Tests.{cases-bool, cases-eq, cases-lt, eqb-true, eq-eqb}
 use Rattle.rings.specs.Ring.{step, walk-along, back}
@@ -49,31 +49,31 @@ pub step-past : (next : List ℕ) (y : ℕ) → length next ≤ y → length nex
 unfolding step
 step-past next y h = omega (arith, getD-past next y (length next) h)
 
--- a ring has no nobody
+-- a walk around a ring never comes to nobody
 pub ring-within : (next : List ℕ) (k c x : ℕ) → walk-along next (suc k) x ≡ x → x < length next → walk-along next c x < length next
 ring-within next k c x e h =
-    elim (cases-lt (walk-along next c x) (length next))
-    [ inl l ↦ l
-    | inr l ↦ absurd (let q : length next ≤ x = came-in next (λ y. length next ≤ y) (step-past next) k c x e l in omega arith)
+    elim (cases-lt (walk-along next c x) (length next)) [
+      | inl l ↦ l
+      | inr l ↦ absurd (let q : length next ≤ x = came-in next (λ y. length next ≤ y) (step-past next) k c x e l in omega arith)
     ]
 
 pub back-from : (next : List ℕ) (i k j : ℕ) → j < k → walk-along next (suc j) i ≡ i → back next i k ≡ true
 unfolding back
 back-from next i zero j h e = absurd (omega arith)
 back-from next i (suc k) j h e =
-    elim (cases-eq j k)
-    [ inl q ↦ let t : eqb (walk-along next (suc k) i) i ≡ true = eq-eqb _ _ (rw q at e) in rw t
-    | inr q ↦ elim (cases-bool (eqb (walk-along next (suc k) i) i))
-        [ inl t ↦ rw t
+    elim (cases-eq j k) [
+      | inl q ↦ let t : eqb (walk-along next (suc k) i) i ≡ true = eq-eqb _ _ (rw q at e) in rw t
+      | inr q ↦ elim (cases-bool (eqb (walk-along next (suc k) i) i)) [
+        | inl t ↦ rw t
         | inr t ↦ rw t (back-from next i k j (omega arith) e)
-        ]
+      ]
     ]
 
 pub back-gives : (next : List ℕ) (i k : ℕ) → back next i k ≡ true → (j : ℕ) × (j < k) × (walk-along next (suc j) i ≡ i)
 unfolding back
 back-gives next i zero h = absurd (grind arith)
 back-gives next i (suc k) h =
-    elim (cases-bool (eqb (walk-along next (suc k) i) i))
-    [ inl t ↦ (k, omega arith, eqb-true _ _ t)
-    | inr t ↦ let r = back-gives next i k (rw t at h) in (r .0, omega (arith, r .1), r .2)
+    elim (cases-bool (eqb (walk-along next (suc k) i) i)) [
+      | inl t ↦ (k, omega arith, eqb-true _ _ t)
+      | inr t ↦ let r = back-gives next i k (rw t at h) in (r .0, omega (arith, r .1), r .2)
     ]

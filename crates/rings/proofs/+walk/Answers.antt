@@ -1,8 +1,7 @@
 -- A walk stops where it should since the steps that are left are at least as many as the traders who are unmet.
-use mathlib.Core.Path.{_≡_}
 use native.Mathlib.Omega.{arith}
 use Prim.Native.Nat.{_<_, _-_}
-use lib.ListN.{length, set, length-set}
+use lib.ListN.{length-set}
 use Rattle.rings.specs.Walk.{unmet}
 use Rattle.rings.proofs.Marks.{walked-none, walked-on, unmet-has, unmet-set, has-mark-parts, has-mark-not}
 use Rattle.rings.proofs.+walk.Needs as need
@@ -11,13 +10,13 @@ use Rattle.rings.proofs.+walk.Needs.{then-steps-eq0·by·then-steps-eq0, then-
 pub returns-then-steps-eq0 : need.returns-then-steps-eq0
 returns-then-steps-eq0 t c =
     walked-none (c .args .next .now) (c .args .marks .now) (c .args .walker) (c .args .at) (c .args .steps)
-    (λ below zero-mark. elim (c .then-steps-eq0 .came)
-        [ then-steps-eq0·by·then-steps-eq0 w ↦
-            let h : 0 < unmet (c .args .marks .now) = unmet-has (c .args .marks .now) (c .args .at) (omega arith) zero-mark in
-            omega (arith, c .pre .enough)
-        | then-steps-eq0·by·else-steps-eq0·then-not-has-mark w ↦
-            has-mark-not (c .args .marks .now) (c .args .at) 0 (w .if-not-has-mark .ensures tt) (omega arith) zero-mark
-        ])
+    (λ below zero-mark. elim (c .then-steps-eq0 .came) [
+      | then-steps-eq0·by·then-steps-eq0 w ↦
+          let h : 0 < unmet (c .args .marks .now) = unmet-has (c .args .marks .now) (c .args .at) (omega arith) zero-mark in
+          omega (arith, c .pre .enough)
+      | then-steps-eq0·by·else-steps-eq0·then-not-has-mark w ↦
+          has-mark-not (c .args .marks .now) (c .args .at) 0 (w .if-not-has-mark .ensures tt) (omega arith) zero-mark
+    ])
 
 pub walk-requires : need.walk-requires
 walk-requires t c κs =

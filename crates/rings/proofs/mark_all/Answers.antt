@@ -1,8 +1,8 @@
 -- One trader's walk after another: each leaves the marks as `Done` says, with those on the ring that it found marked.
-use mathlib.Core.Path.{_≡_, refl, sym, _∙_, ap, subst}
+use mathlib.Core.Path.{_≡_, sym, _∙_, ap, subst}
 use native.Mathlib.Omega.{arith}
 use borrow.Author.Needs.{needs}
-use Prim.Native.Nat.{ℕ, _+_, _<_}
+use Prim.Native.Nat.{_+_, _<_}
 use lib.ListN.{length, replicate}
 use Rattle.rings.proofs.Marks.{has-mark-parts, has-mark-not}
 use Rattle.rings.proofs.Around.{Ringed, going-on, going-more, going-back, going-within}
@@ -32,12 +32,12 @@ ring-again c =
     let p = has-mark-parts marks e (c .traders .start + 1) (c .if-not-has-mark-2 .ensures tt) in
     let l : e < length next = omega (arith, p .0) in
     let r =
-        ring-found next (c .traders .marks) marks (c .traders .start) e _
-        (c .traders .inv) (c .walk-met .ensures) (omega arith) (c .pre .most) (c .traders-test .taken) l (p .1)
+    ring-found next (c .traders .marks) marks (c .traders .start) e _
+    (c .traders .inv) (c .walk-met .ensures) (omega arith) (c .pre .most) (c .traders-test .taken) l (p .1)
     in
-    let G = going-on next marks (c .ring .marks) e (c .ring .-step) (c .ring .at) (c .ring .inv .1) in
-    ( going-within next marks (c .ring .marks) e (c .ring .-step) (c .ring .at) G (c .ring .inv .0) len (r .0) (r .2) l
-    , going-more next marks (c .ring .marks) e (c .ring .-step) (c .ring .at) G (c .ring .inv .0) len (c .if-at-met .left)
+    let G = going-on next marks (c .ring .marks) e (c .ring .-step) (c .ring .at) (c .ring .inv .1) in (
+      going-within next marks (c .ring .marks) e (c .ring .-step) (c .ring .at) G (c .ring .inv .0) len (r .0) (r .2) l,
+      going-more next marks (c .ring .marks) e (c .ring .-step) (c .ring .at) G (c .ring .inv .0) len (c .if-at-met .left),
     )
 
 -- once around the ring: the loop is left where it is back, and never for want of steps
@@ -50,15 +50,15 @@ around c =
     let p = has-mark-parts marks e (c .traders .start + 1) (c .if-not-has-mark-2 .ensures tt) in
     let l : e < length next = omega (arith, p .0) in
     let r =
-        ring-found next (c .traders .marks) marks (c .traders .start) e _
-        (c .traders .inv) (c .walk-met .ensures) (omega arith) (c .pre .most) (c .traders-test .taken) l (p .1)
+    ring-found next (c .traders .marks) marks (c .traders .start) e _
+    (c .traders .inv) (c .walk-met .ensures) (omega arith) (c .pre .most) (c .traders-test .taken) l (p .1)
     in
     let G = going-on next marks (c .ring .marks) e (c .ring .-step) (c .ring .at) (c .ring .inv .1) in
-    elim (c .ring-test .came)
-    [ else-ring-test w ↦ absurd (G .not-yet (r .0) (let h = r .1 in let g = w .ring-test .left in omega arith) (r .2))
-    | then-ring-test·then-at-met w ↦
-        subst (λ m. Ringed next marks m e) (sym (w .marks-is))
-        (going-back next marks (c .ring .marks) e (c .ring .-step) (c .ring .at) G (c .ring .inv .0) len (w .ring-test .taken) (w .if-at-met .taken))
+    elim (c .ring-test .came) [
+      | else-ring-test w ↦ absurd (G .not-yet (r .0) (let h = r .1 in let g = w .ring-test .left in omega arith) (r .2))
+      | then-ring-test·then-at-met w ↦
+          subst (λ m. Ringed next marks m e) (sym (w .marks-is))
+          (going-back next marks (c .ring .marks) e (c .ring .-step) (c .ring .at) G (c .ring .inv .0) len (w .ring-test .taken) (w .if-at-met .taken))
     ]
 
 pub traders-again : need.traders-again

@@ -7,7 +7,7 @@ use Rattle.rings.proofs.mark_rings.Needs as need
 
 pub returns : need.returns
 returns c = record {
-    answer = search needs;
-    work = left-is (c .args .next .now) (c .args .work .now) (c .mark-all .last .marks) (c .turn-to-flags .last .work)
-        (2 * length (c .args .next .now) - length (c .args .next .now)) (omega arith) (omega arith) (c .mark-all .ensures) (c .turn-to-flags .ensures)
-  }
+  answer = search needs;
+  work = left-is (c .args .next .now) (c .args .work .now) (c .mark-all .last .marks) (c .turn-to-flags .last .work)
+      (2 * length (c .args .next .now) - length (c .args .next .now)) (omega arith) (omega arith) (c .mark-all .ensures) (c .turn-to-flags .ensures);
+}

@@ -14,7 +14,7 @@ pub loop-i-again : need.loop-i-again
 loop-i-again c =
     c .turn-to-flag .ensures
     ∙ flag-more (c .args .work .now) (c .loop-i .work) (c .args .n) (c .loop-i .i) (flag-of (c .loop-i .work) (c .args .n) (c .loop-i .i))
-        (c .pre) (c .loop-i-test .taken) (c .loop-i .inv) refl
+    (c .pre) (c .loop-i-test .taken) (c .loop-i .inv) refl
 
 pub returns : need.returns
 unfolding flagged
