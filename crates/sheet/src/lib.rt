@@ -1,2 +1,2 @@
-// The sheet: what the exchange hands out, and the checker for anybody's sheet.
-ghost use mathlib.Core.Path.{_≡_};
+// The sheet: the public exchange that writes it, and the checker for anybody's sheet.
+pub mod exchanging;
