@@ -1,1 +1,5 @@
 pub mod Entries
+pub mod Checked
+pub mod Dearer
+pub mod Traders
+pub mod Written

@@ -1,0 +1,115 @@
+-- How the first fault of all traders is found a trader at a time.
+use mathlib.Core.Path.{_≡_, refl, sym, ap, _∙_}
+use mathlib.Core.Bool.{Bool, true, false, cond, _||_}
+use mathlib.Core.List.{List, [], _∷_}
+use mathlib.Core.Logic.{inl, inr}
+use Prim.Native.Nat.{ℕ, zero, suc, _+_, _*_, _≤_, _<_}
+use native.Mathlib.Omega.{arith}
+use native.Mathlib.Numerals.{add-one}
+use lib.Dec.{eqb, ltb}
+use lib.ListN.{length, getD, set, replicate}
+use Rattle.std.proofs.shelf.Lists.{getD-default, getD-set-same, getD-set-other}
+use Rattle.std.proofs.shelf.Tests.{cases-eq, and-parts, ltb-true, ne-eqb, eq-eqb}
+use Rattle.std.specs.declared.option.Option.{Option}
+use Rattle.std.specs.declared.option.Option.the-variants.{Some, None}
+use Rattle.lists.specs.declared.refusals.Refusal.{Refusal}
+use Rattle.lists.specs.Format.{fault, list-bytes, lists-of, next-start, number-at, numbers, or-else, start}
+use Rattle.lists.specs.Promise.{Distinct}
+use Rattle.lists.specs.Trade.{Lists}
+use Rattle.lists.proofs.Accepted.{list-distinct, list-within, no-fault-both, short-list}
+use Rattle.lists.proofs.Faults.{no-marks}
+use Rattle.lists.proofs.Positions.{count-of-lists, length-of-part, list-is, numbers-at, numbers-length}
+use Rattle.sheet.specs.Sheet.{stand-in, got-before, taken-fault, dearer-fault, holder-fault, entry-fault, trader-fault, traders-fault}
+use Rattle.sheet.proofs.Checked.{no-fault-test}
+
+-- one trader, and the end
+module _ (ls : Lists) (sheet : List ℕ) (i left : ℕ) (whole : Option Refusal) (so-far : traders-fault ls sheet i left ≡ whole) where
+  pub traders-wrong : (f : Refusal) → 0 < left → trader-fault ls sheet i ≡ Some f → whole ≡ Some f
+  unfolding traders-fault
+  traders-wrong f more e = sym so-far ∙ wrong-step left more
+    where
+      wrong-step : (k : ℕ) → 0 < k → traders-fault ls sheet i k ≡ Some f
+      wrong-step zero h = absurd (omega arith)
+      wrong-step (suc k) h = rw e
+
+  pub traders-next : (rest : ℕ) → left ≡ rest + 1 → trader-fault ls sheet i ≡ None → traders-fault ls sheet (i + 1) rest ≡ whole
+  unfolding traders-fault
+  traders-next rest one e =
+      let l : left ≡ suc rest = omega arith in
+      let whole-is : traders-fault ls sheet i (suc rest) ≡ whole = rw l at so-far in
+      rw (add-one i) (sym (rw e) ∙ whole-is)
+
+  pub traders-done : left ≡ 0 → whole ≡ None
+  unfolding traders-fault
+  traders-done h = sym so-far ∙ rw h
+
+-- a trader's entry without a fault has a stand that exists
+pub entry-below : (sheet : List ℕ) (n i : ℕ) (ts : List ℕ) (again : Bool) → entry-fault sheet n i ts again ≡ None → stand-in sheet i < n
+entry-below sheet n i ts again e =
+    let p = no-fault-both (taken-fault sheet n i again) (or-else (dearer-fault sheet i ts 0) (holder-fault sheet i)) e in
+    ltb-true _ _ (and-parts _ _ (no-fault-test _ _ (p .0)) .0)
+
+-- the marks of the stands got before: none, and one more
+pub marks-none : (sheet : List ℕ) (n t : ℕ) → eqb (getD (replicate n 0) t 0) 1 ≡ got-before sheet 0 t
+unfolding got-before
+marks-none sheet n t = ne-eqb _ _ (λ e. let none = no-marks n t in omega arith)
+
+pub marks-more : (sheet taken : List ℕ) (i got : ℕ) → got ≡ stand-in sheet i → got < length taken →
+    ((t : ℕ) → eqb (getD taken t 0) 1 ≡ got-before sheet i t) →
+    (t : ℕ) → eqb (getD (set taken got 1) t 0) 1 ≡ got-before sheet (i + 1) t
+unfolding got-before
+marks-more sheet taken i got is h m t =
+    rw (add-one i) (elim (cases-eq t got) [
+      | inl e ↦
+          (let same = getD-set-same taken got 1 0 h in
+          let here : eqb (stand-in sheet i) t ≡ true = eq-eqb _ _ (sym (e ∙ is)) in
+          rw (here, e, same))
+      | inr ne ↦
+          (let other = getD-set-other taken got t 1 0 ne in
+          let there : eqb (stand-in sheet i) t ≡ false = ne-eqb _ _ (λ e. ne (sym (is ∙ e))) in
+          rw (other, there) (m t))
+    ])
+
+-- the list of trader i in accepted bytes
+module _ (bs : List ℕ) (accepted : fault bs ≡ None) (i at : ℕ) (h : i < number-at bs 0) (begins : at ≡ start bs i) where
+  pub within : next-start bs at ≤ length bs
+  within = rw begins (list-within bs accepted i h)
+
+  pub part-length : length (list-bytes bs at) ≡ 2 * getD bs at 0
+  part-length = length-of-part bs at within
+
+  pub part-short : length (list-bytes bs at) ≤ 80
+  part-short =
+      let few : getD bs at 0 ≤ 40 = rw begins (short-list bs accepted i h) in
+      let long = part-length in omega arith
+
+  exists-there : (p : ℕ) → 2 * p + 1 < length (list-bytes bs at) → number-at (list-bytes bs at) (2 * p) < number-at bs 0
+  unfolding Distinct
+  exists-there p inside =
+      let long = part-length in
+      let below : p < getD bs at 0 = omega arith in
+      let count = numbers-length (list-bytes bs at) (getD bs at 0) long in
+      let number = numbers-at (list-bytes bs at) (getD bs at 0) p long below in
+      let exists : (j : ℕ) → j < length (numbers (list-bytes bs at)) → getD (numbers (list-bytes bs at)) j (number-at bs 0) < number-at bs 0 =
+      rw begins (list-distinct bs accepted i h .0 .1) in
+      let there : p < length (numbers (list-bytes bs at)) = omega arith in
+      rw (← number, getD-default (numbers (list-bytes bs at)) p 0 (number-at bs 0) there) (exists p there)
+
+  pub part-exists : (n : ℕ) (list : List ℕ) → n ≡ number-at bs 0 → list ≡ list-bytes bs at →
+      (p : ℕ) → 2 * p + 1 < length list → number-at list (2 * p) < n
+  part-exists n list count is = rw (count, is) exists-there
+
+  pub trader-is : (sheet : List ℕ) (n : ℕ) (list : List ℕ) (again : Bool) → n ≡ number-at bs 0 → list ≡ list-bytes bs at →
+      again ≡ got-before sheet i (stand-in sheet i) →
+      entry-fault sheet n i (numbers list) again ≡ trader-fault (lists-of bs) sheet i
+  unfolding trader-fault
+  trader-is sheet n list again count is before =
+      let l : getD (lists-of bs) i [] ≡ numbers list = list-is bs i h ∙ rw (is, begins) in
+      rw (count-of-lists bs, l, count, before)
+
+  pub on : (size : ℕ) → size ≡ length (list-bytes bs at) → at + (1 + size) ≡ start bs (i + 1)
+  on size is =
+      let long = part-length in
+      let next : start bs (i + 1) ≡ next-start bs (start bs i) = rw (add-one i) in
+      let same : next-start bs at ≡ next-start bs (start bs i) = ap (next-start bs) begins in
+      omega arith

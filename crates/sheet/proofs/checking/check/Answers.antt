@@ -1,0 +1,25 @@
+use mathlib.Core.Path.{_≡_, sym, _∙_}
+use Rattle.std.proofs.shelf.Results.{err-from-errBy}
+use Rattle.std.specs.declared.result.Result.{Result}
+use Rattle.std.specs.declared.result.Result.the-variants.{Err}
+use Rattle.lists.specs.Format.{number-at, unless}
+use Rattle.lists.proofs.Faults.{refused-fault, no-fault}
+use Rattle.sheet.specs.Sheet.{check-fault}
+use Rattle.sheet.proofs.Checked.{checked, length-wrong, length-right}
+use Rattle.sheet.proofs.checking.check.Needs as need
+
+pub returns-in-Break-check-length : need.returns-in-Break-check-length
+returns-in-Break-check-length c =
+    let p = err-from-errBy (c .from-residual-in-Break-check-length .result) (c .from-residual-in-Break-check-length .ensures .1) in
+    let lists = no-fault _ _ _ (c .in-Continue-n .ensures tt) in
+    let bad = length-wrong (c .args .bytes .now) (c .args .sheet .now) (c .in-Continue-n .n) (lists .0) (lists .1) _ (refused-fault _ _ _ (c .in-Break-check-length .ensures tt)) in
+    let answer : c .from-residual-in-Break-check-length .result ≡ unless (check-fault (c .args .bytes .now) (c .args .sheet .now)) (number-at (c .args .bytes .now) 0) = rw (p .1, p .2, bad) in
+    record { answer = answer; says = checked (c .args .bytes .now) (c .args .sheet .now) _ answer }
+
+pub returns : need.returns
+returns c =
+    let lists = no-fault _ _ _ (c .in-Continue-n .ensures tt) in
+    let sized = no-fault _ _ _ (c .in-Continue-check-length .ensures tt) in
+    let same = length-right (c .args .bytes .now) (c .args .sheet .now) (c .in-Continue-n .n) (lists .0) (lists .1) (sized .0) in
+    let answer : c .check-traders .result ≡ unless (check-fault (c .args .bytes .now) (c .args .sheet .now)) (number-at (c .args .bytes .now) 0) = rw (same, ← lists .1) (c .check-traders .ensures) in
+    record { answer = answer; says = checked (c .args .bytes .now) (c .args .sheet .now) _ answer }
