@@ -17,7 +17,7 @@ use Rattle.lists.specs.declared.refusals.Refusal.the-variants.{TooShort}
 use Rattle.lists.specs.Format.{bytes-of, encode, fault, lists-of, number-at, or-else}
 use Rattle.lists.specs.Promise.{Proper, rank}
 use Rattle.lists.specs.Trade.{Lists, out, result}
-use Rattle.sheet.specs.Sheet.{round-in, stand-in}
+use Rattle.sheet.specs.Sheet.{round-in, sheet-of, stand-in}
 
 -- The promise, whole: about the lists that the bytes bs encode, the results and the sheet that were written.
 pub record Promised (bs results sheet : List ℕ) : Type 0 where
@@ -55,10 +55,20 @@ lent-fault n results sheet work =
 abbrev pub exchange-fault : List ℕ → ℕ → ℕ → ℕ → Option Refusal
 exchange-fault bs results sheet work = or-else (fault bs) (lent-fault (number-at bs 0) results sheet work)
 
--- how a lent slice is left: what was written stands at its front, the rest is as it was; a refusal changes nothing
-abbrev pub after : {A : Type 0} → Result A Refusal → List ℕ → List ℕ → List ℕ
-after (Ok a) written was = written ++ drop (length written) was
-after (Err f) written was = was
+-- How the sheet's slice is left: a refusal changes nothing, and else the sheet stands in front.
+abbrev pub sheet-left : {A : Type 0} → Result A Refusal → Lists → List ℕ → List ℕ
+sheet-left (Err f) ls xs = xs
+sheet-left (Ok a) ls xs = sheet-of ls ++ drop (4 * length ls) xs
+
+-- How the work slice is left: a refusal changes nothing, and else its 3 n entries are cleared.
+abbrev pub work-cleared : {A : Type 0} → Result A Refusal → Lists → List ℕ → List ℕ
+work-cleared (Err f) ls xs = xs
+work-cleared (Ok a) ls xs = replicate (3 * length ls) 0 ++ drop (3 * length ls) xs
+
+-- What is promised where the exchange was done.
+abbrev pub Promised-by : {A : Type 0} → Result A Refusal → List ℕ → List ℕ → List ℕ → Type 0
+Promised-by (Err f) bs results sheet = Unit {0}
+Promised-by (Ok a) bs results sheet = Promised bs results sheet
 
 -- the sheet with one entry written at p
 abbrev pub put-entry : List ℕ → ℕ → ℕ → ℕ → List ℕ

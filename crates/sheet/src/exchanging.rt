@@ -1,9 +1,57 @@
 // The public exchange: lists in, results and sheet out.
 ghost use Prim.Native.Nat.{_+_, _*_, _≤_};
-ghost use Rattle.sheet.specs.Exchange.{entries, put-entry};
+ghost use Rattle.lists.specs.Format.{fault, lists-of, number-at, unless};
+ghost use Rattle.rounds.specs.Run.{exchanged, results-left};
+ghost use Rattle.sheet.specs.Exchange.{Promised-by, entries, exchange-fault, put-entry, sheet-left, work-cleared};
+ghost use Rattle.std.specs.declared.option.Option.the-variants.{None};
+ghost use Rattle.std.specs.declared.result.Result.the-variants.{Ok};
 ghost use lib.ListN.{drop, length};
 ghost use mathlib.Core.List.{_++_};
 ghost use mathlib.Core.Path.{_≡_};
+use lists::reading::read;
+use lists::refusals::Lent;
+use lists::refusals::Refusal;
+use rounds::running::Exchanged;
+use rounds::running::run_rounds;
+
+// The exchange of a year: `results` gets the stand of each trader, `sheet` the stand and the round of each, in their order.
+// `work` has at least 3 n entries, which are cleared at the end. A refusal changes nothing that is lent.
+pub fn exchange(bytes: &[u8], results: &mut [u16], sheet: &mut [u8], work: &mut [u16]) -> Result<Exchanged, Refusal>
+    ensures answer { λ r. ⌜ r ≡ unless (exchange-fault (now (bytes .entry)) (length (now (results .entry))) (length (now (sheet .entry))) (length (now (work .entry)))) (exchanged (lists-of (now (bytes .entry)))) ⌝ }
+    ensures results { λ r. ⌜ now (results .exit) ≡ results-left r (lists-of (now (bytes .entry))) (now (results .entry)) ⌝ }
+    ensures sheet { λ r. ⌜ now (sheet .exit) ≡ sheet-left r (lists-of (now (bytes .entry))) (now (sheet .entry)) ⌝ }
+    ensures work { λ r. ⌜ now (work .exit) ≡ work-cleared r (lists-of (now (bytes .entry))) (now (work .entry)) ⌝ }
+    ensures promise { λ r. ⌜ Promised-by r (now (bytes .entry)) (now (results .exit)) (now (sheet .exit)) ⌝ }
+{
+    let n = read(bytes)? as usize;
+    if results.len() < n {
+        return Err(Refusal::TooShort { lent: Lent::Results });
+    }
+    if sheet.len() < 4 * n {
+        return Err(Refusal::TooShort { lent: Lent::Sheet });
+    }
+    if work.len() < 3 * n {
+        return Err(Refusal::TooShort { lent: Lent::Work });
+    }
+    exchange_all(bytes, n, results, sheet, work)
+}
+
+// The exchange of accepted lists, with room for all that is written.
+fn exchange_all(bytes: &[u8], n: usize, results: &mut [u16], sheet: &mut [u8], work: &mut [u16]) -> Result<Exchanged, Refusal>
+    requires accepted { ⌜ fault (now bytes) ≡ None ⌝ }
+    requires traders { ⌜ n ≡ number-at (now bytes) 0 ⌝ }
+    requires room { ⌜ n ≤ length (now results) ⌝ ∗ ⌜ 4 * n ≤ length (now sheet) ⌝ ∗ ⌜ 3 * n ≤ length (now work) ⌝ }
+    ensures answer { λ r. ⌜ r ≡ Ok (exchanged (lists-of (now (bytes .entry)))) ⌝ }
+    ensures results { λ r. ⌜ now (results .exit) ≡ results-left r (lists-of (now (bytes .entry))) (now (results .entry)) ⌝ }
+    ensures sheet { λ r. ⌜ now (sheet .exit) ≡ sheet-left r (lists-of (now (bytes .entry))) (now (sheet .entry)) ⌝ }
+    ensures work { λ r. ⌜ now (work .exit) ≡ work-cleared r (lists-of (now (bytes .entry))) (now (work .entry)) ⌝ }
+    ensures promise { λ r. ⌜ Promised-by r (now (bytes .entry)) (now (results .exit)) (now (sheet .exit)) ⌝ }
+{
+    let exchanged = run_rounds(bytes, results, work)?;
+    write_sheet(sheet, results, work, n);
+    work[0..3 * n].fill(0);
+    Ok(exchanged)
+}
 
 // Writes one entry of the sheet at byte `at`: the stand got and the round, low byte first.
 fn write_entry(sheet: &mut [u8], at: usize, stand: u16, round: u16)
