@@ -1,0 +1,4 @@
+pub mod Outcomes
+pub mod Prefixes
+pub mod Ranks
+pub mod Tables
