@@ -8,7 +8,7 @@ use native.Mathlib.Omega.{arith}
 use lib.Dec.{eqb}
 use lib.ListN.{length, getD, set}
 use Rattle.std.proofs.shelf.Lists.{getD-set-same, getD-set-other}
-use Rattle.std.proofs.shelf.Tests.{cases-eq, cases-bool}
+use Rattle.std.proofs.shelf.Tests.{both-ways, cases-eq, cases-bool}
 use Rattle.groups.specs.Groups.{in-group, stand-of}
 use Rattle.groups.specs.Sharings.{may, Sharing, Sound, Agrees, Hopeless, Brought, Unbrought, Differs, Same}
 
@@ -138,32 +138,34 @@ all-tried n table got chosen i more room out all group share agrees s =
         ]
 
 -- all traders have their choice
-module _ (n : ℕ) (table : List Bool) (results chosen : List ℕ) where
-  pub serves : Sound n table chosen n → Brought n chosen → Differs n results chosen →
+module _ (n i : ℕ) (all : i ≡ n) (table : List Bool) (results chosen : List ℕ) where
+  pub serves : Sound n table chosen i → Brought n chosen → Differs n results chosen →
       Sharing n table (stand-of results) (in-group chosen) (stand-of chosen)
   serves sound brought differs =
       record {
-        among = λ i h m. (sound .below i h m, brought i h m);
-        apart = sound .apart;
-        fine = sound .fine;
+        among = λ j h m. (sound .below j (omega arith) m, brought j h m);
+        apart = λ j k hj hk. sound .apart j k (omega arith) (omega arith);
+        fine = λ j h. sound .fine j (omega arith);
         another = differs;
       }
 
-  pub not-brought : Unbrought n chosen → Hopeless n table (stand-of results) chosen n
+  pub not-brought : Unbrought n chosen → Hopeless n table (stand-of results) chosen i
   not-brought at group share agrees s =
       let j = at .0 in
-      let way = agrees j (at .1) in
+      let below = at .1 in
+      let way = agrees j (omega arith) in
       let in-j : group j ≡ true = way .0 ∙ at .2 in
-      let among = s .among j (at .1) in-j in
+      let among = s .among j below in-j in
+      let there = among .0 in
       let is : share j ≡ stand-of chosen j = way .1 in-j in
-      let in-that : in-group chosen (share j) ≡ true = sym (agrees (share j) (among .0) .0) ∙ among .1 in
+      let in-that : in-group chosen (share j) ≡ true = sym (agrees (share j) (omega arith) .0) ∙ among .1 in
       let in-that′ : in-group chosen (stand-of chosen j) ≡ true = rw is at in-that in
-      let not-in = at .3 in
-      grind arith
+      both-ways _ (at .3) in-that′
 
-  pub all-the-same : Same n results chosen → Hopeless n table (stand-of results) chosen n
+  pub all-the-same : Same n results chosen → Hopeless n table (stand-of results) chosen i
   all-the-same same group share agrees s =
       let other = s .another in
-      let i = other .0 in
-      let way = agrees i (other .1) in
-      other .3 (way .1 (other .2) ∙ same i (other .1) (sym (way .0) ∙ other .2))
+      let j = other .0 in
+      let below = other .1 in
+      let way = agrees j (omega arith) in
+      other .3 (way .1 (other .2) ∙ same j below (sym (way .0) ∙ other .2))

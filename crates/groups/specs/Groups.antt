@@ -36,12 +36,13 @@ stand-of stands i = getD stands i 0
 abbrev pub in-group : List ℕ → ℕ → Bool
 in-group share i = not (eqb (getD share i 0) 65535)
 
--- the first fault of the lists; else more than 8 traders; else fewer results than traders
+-- a fault of the lists comes before everything else
 abbrev pub or-refused : Option Refusal → Option Unsearched → Option Unsearched
 or-refused (Some f) later = Some (Refused f)
 or-refused None later = later
 
--- why no search is made; None where one is made
+-- Why no search is made: the first fault of the lists; else more than 8 traders; else fewer results than traders. None
+-- where one is made.
 unfoldable pub unsearched : List ℕ → List ℕ → Option Unsearched
 unsearched bs results =
     or-refused (fault bs)

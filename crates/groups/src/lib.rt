@@ -152,10 +152,10 @@ fn complete(
     if let Some(share) = complete(table, results, n, i + 1, stays_out) {
         return Some(share);
     }
-    for t in 0..n {
-        if table[8 * i + t] && !taken(&chosen, i, t as u16) {
+    for stand in 0..n {
+        if table[8 * i + stand] && !taken(&chosen, i, stand as u16) {
             let mut gets = chosen;
-            gets[i] = t as u16;
+            gets[i] = stand as u16;
             if let Some(share) = complete(table, results, n, i + 1, gets) {
                 return Some(share);
             }
@@ -185,5 +185,98 @@ pub fn bettering(bytes: &[u8], results: &[u16]) -> Result<Answer, Unsearched>
     match complete(&table, results, n as usize, 0, [OUT; 8]) {
         Some(share) => Ok(Answer::Bettered { share }),
         None => Ok(Answer::Unbettered),
+    }
+}
+
+#[cfg(test)]
+mod tests {
+    use super::*;
+    use std::test::*;
+
+    // 0 lists 1 and 2, 1 lists 0 and 3, 2 lists 0 and 1, 3 lists 1 and 0
+    const TWO_SWAPS: [u8; 22] = [
+        4,
+        0,
+        2,
+        1,
+        0,
+        2,
+        0,
+        2,
+        0,
+        0,
+        3,
+        0,
+        2,
+        0,
+        0,
+        1,
+        0,
+        2,
+        1,
+        0,
+        0,
+        0,
+    ];
+
+    // 0 lists 1, 1 lists 2, 2 lists 0
+    const ONE_RING: [u8; 11] = [3, 0, 1, 1, 0, 1, 2, 0, 1, 0, 0];
+
+    // 0 lists 1, 1 lists 0, 2 lists 0 and 3, 3 lists 2
+    const OUT_FIRST: [u8; 16] = [4, 0, 1, 1, 0, 1, 0, 0, 2, 0, 0, 3, 0, 1, 2, 0];
+
+    // Everybody has a stand listed, and the two who could swap their dearest have less dear ones.
+    #[test]
+    fn the_most_contented_sharing_is_bettered() -> Result<(), Fail> {
+        let share = [1, 0, OUT, OUT, OUT, OUT, OUT, OUT];
+        check_eq(
+            bettering(&TWO_SWAPS, &[2, 3, 0, 1]),
+            Ok(Answer::Bettered { share }),
+        )
+    }
+
+    // With only rings of two everybody would keep the own stand.
+    #[test]
+    fn rings_of_two_are_bettered() -> Result<(), Fail> {
+        let share = [1, 2, 0, OUT, OUT, OUT, OUT, OUT];
+        check_eq(
+            bettering(&ONE_RING, &[0, 1, 2]),
+            Ok(Answer::Bettered { share }),
+        )
+    }
+
+    // Were 2 to go on pointing to 0's stand when 0 is out, 2 and 3 would never swap.
+    #[test]
+    fn pointing_to_one_who_is_out_is_bettered() -> Result<(), Fail> {
+        let share = [OUT, OUT, 3, 2, OUT, OUT, OUT, OUT];
+        check_eq(
+            bettering(&OUT_FIRST, &[1, 0, 2, 3]),
+            Ok(Answer::Bettered { share }),
+        )
+    }
+
+    #[test]
+    fn the_exchange_is_not_bettered() -> Result<(), Fail> {
+        check_eq(bettering(&TWO_SWAPS, &[1, 0, 2, 3]), Ok(Answer::Unbettered))?;
+        check_eq(bettering(&ONE_RING, &[1, 2, 0]), Ok(Answer::Unbettered))?;
+        check_eq(bettering(&OUT_FIRST, &[1, 0, 3, 2]), Ok(Answer::Unbettered))
+    }
+
+    #[test]
+    fn no_search_is_made() -> Result<(), Fail> {
+        let nine = [9, 0, 0, 0, 0, 0, 0, 0, 0, 0, 0];
+        check_eq(bettering(&nine, &[]), Err(Unsearched::TooMany))?;
+        let refusal = Refusal::TooShort {
+            lent: Lent::Results,
+        };
+        check_eq(
+            bettering(&ONE_RING, &[1, 2]),
+            Err(Unsearched::Refused { refusal }),
+        )?;
+        let refusal = Refusal::WrongLength { at: 0 };
+        check_eq(
+            bettering(&[], &[1, 2]),
+            Err(Unsearched::Refused { refusal }),
+        )
     }
 }
