@@ -108,7 +108,8 @@ fn all_brought(chosen: &[u16], n: usize) -> bool
     ensures none { λ r. ⌜ (r ≡ false → Unbrought n (now (chosen .entry))) ⌝ }
 {
     for j in 0..n {
-        if chosen[j] != OUT && chosen[chosen[j] as usize] == OUT {
+        let stand = chosen[j];
+        if stand != OUT && chosen[stand as usize] == OUT {
             return false;
         }
     }
