@@ -2,3 +2,4 @@ pub mod Outcomes
 pub mod Prefixes
 pub mod Ranks
 pub mod Tables
+pub mod Unbettered
