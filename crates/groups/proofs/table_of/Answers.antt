@@ -1,0 +1,19 @@
+use mathlib.Core.Path.{_∙_, sym}
+use Prim.Native.Nat.{_+_, _*_, _<_}
+use lib.ListN.{length-set}
+use native.Mathlib.Omega.{arith}
+use Rattle.lists.specs.Format.{lists-of}
+use Rattle.groups.proofs.Tables.{by-list, right-more}
+use Rattle.groups.proofs.table_of.Needs as need
+
+pub loop-t-again : need.loop-t-again
+loop-t-again c =
+    let ls = lists-of (c .args .bytes .now) in
+    let i = c .loop-i .i in
+    let t = c .loop-t .t in
+    let n = c .pre .accepted .1 in
+    let list = c .in-Some .ensures tt .list i (c .pre .accepted .0, omega arith, c .start-of .ensures) in (
+      simp length-set (c .loop-t .inv .0),
+      right-more ls (c .args .results .now) (c .args .n) i t (c .loop-t .table) _ (c .pre .few .0) (c .loop-t-test .taken) (omega arith) (c .loop-t .inv .1)
+          (by-list ls i t _ _ _ list (c .no-less-dear .ensures)),
+    )
