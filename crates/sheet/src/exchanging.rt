@@ -16,7 +16,12 @@ use rounds::running::run_rounds;
 
 // The exchange of a year: `results` gets the stand of each trader, `sheet` the stand and the round of each, in their order.
 // `work` has at least 3 n entries, which are cleared at the end. A refusal changes nothing that is lent.
-pub fn exchange(bytes: &[u8], results: &mut [u16], sheet: &mut [u8], work: &mut [u16]) -> Result<Exchanged, Refusal>
+pub fn exchange(
+    bytes: &[u8],
+    results: &mut [u16],
+    sheet: &mut [u8],
+    work: &mut [u16],
+) -> Result<Exchanged, Refusal>
     ensures answer { λ r. ⌜ r ≡ unless (exchange-fault (now (bytes .entry)) (length (now (results .entry))) (length (now (sheet .entry))) (length (now (work .entry)))) (exchanged (lists-of (now (bytes .entry)))) ⌝ }
     ensures results { λ r. ⌜ now (results .exit) ≡ results-left r (lists-of (now (bytes .entry))) (now (results .entry)) ⌝ }
     ensures sheet { λ r. ⌜ now (sheet .exit) ≡ sheet-left r (lists-of (now (bytes .entry))) (now (sheet .entry)) ⌝ }
@@ -25,7 +30,9 @@ pub fn exchange(bytes: &[u8], results: &mut [u16], sheet: &mut [u8], work: &mut 
 {
     let n = read(bytes)? as usize;
     if results.len() < n {
-        return Err(Refusal::TooShort { lent: Lent::Results });
+        return Err(Refusal::TooShort {
+            lent: Lent::Results,
+        });
     }
     if sheet.len() < 4 * n {
         return Err(Refusal::TooShort { lent: Lent::Sheet });
@@ -37,7 +44,13 @@ pub fn exchange(bytes: &[u8], results: &mut [u16], sheet: &mut [u8], work: &mut 
 }
 
 // The exchange of accepted lists, with room for all that is written.
-fn exchange_all(bytes: &[u8], n: usize, results: &mut [u16], sheet: &mut [u8], work: &mut [u16]) -> Result<Exchanged, Refusal>
+fn exchange_all(
+    bytes: &[u8],
+    n: usize,
+    results: &mut [u16],
+    sheet: &mut [u8],
+    work: &mut [u16],
+) -> Result<Exchanged, Refusal>
     requires accepted { ⌜ fault (now bytes) ≡ None ⌝ }
     requires traders { ⌜ n ≡ number-at (now bytes) 0 ⌝ }
     requires room { ⌜ n ≤ length (now results) ⌝ ∗ ⌜ 4 * n ≤ length (now sheet) ⌝ ∗ ⌜ 3 * n ≤ length (now work) ⌝ }
