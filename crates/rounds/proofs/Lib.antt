@@ -1,1 +1,3 @@
 pub mod Pointed
+pub mod Taken
+pub mod Stands

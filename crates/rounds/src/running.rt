@@ -1,6 +1,7 @@
 // The exchange over lent slices: round after round, until nobody is in.
 ghost use Prim.Native.Nat.{_+_, _*_, _<_, _≤_};
-ghost use lib.ListN.{length};
+ghost use lib.ListN.{drop, length, replicate};
+ghost use mathlib.Core.List.{_++_};
 ghost use mathlib.Core.Path.{_≡_};
 ghost use Rattle.lists.specs.Format.{fault, list-bytes, lists-of, number-at, unless};
 ghost use Rattle.std.specs.declared.option.Option.the-variants.{None};
@@ -71,7 +72,7 @@ fn all_rounds(
     ensures work { λ r. ⌜ now (work .exit) ≡ work-left r (lists-of (now (bytes .entry))) (now (work .entry)) ⌝ }
 {
     let size = n as usize;
-    work[0..size].fill(IN);
+    let_all_in(work, size);
     let mut round = 0;
     'rounds: loop {
         point_all(bytes, n, work, results);
@@ -93,6 +94,14 @@ fn all_rounds(
         traders: n,
         rounds: round,
     })
+}
+
+// Everybody is in.
+fn let_all_in(work: &mut [u16], n: usize)
+    requires { ⌜ n ≤ length (now work) ⌝ }
+    ensures { λ _. ⌜ now (work .exit) ≡ replicate n 1 ++ drop n (now (work .entry)) ⌝ }
+{
+    work[0..n].fill(IN);
 }
 
 // Everybody who is in points: so nobody's going out changes what another points to in the same round.
