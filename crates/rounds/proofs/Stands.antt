@@ -68,12 +68,20 @@ going-start ls h = (
 
 -- ---- one round
 
+-- the work slice as the search for rings leaves it, with the number of traders under one name
+marked-as : (n : ℕ) (work pointed next marked : List ℕ) → next ≡ take n pointed → n ≤ length pointed →
+    marked ≡ take (length next) work ++ (ring-flags (take (length next) work) next ++ drop (2 * length next) work) →
+    marked ≡ take n work ++ (ring-flags (take n work) (take n pointed) ++ drop (2 * n) work)
+marked-as n work pointed next marked is long e =
+    let size : length next ≡ n = ap length is ∙ length-take-le n pointed long in
+    e ∙ rw (size, is)
+
 -- nobody past the last trader is in
 past-out : (ls : Lists) (k j : ℕ) → length ls ≤ j → is-in (rounds ls k) j ≡ false
 past-out ls k j h = let s = rounds-inside-length ls k in out-past (rounds ls k) j (omega arith)
 
 module _ (ls : Lists) (n : ℕ) (size : length ls ≡ n) (k : ℕ) (results work results₀ work₀ : List ℕ)
-    (S : Stands ls n k results work results₀ work₀) (room : n ≤ length results) (space : 3 * n ≤ length work)
+    (S : Stands ls n k results work results₀ work₀) (room : n ≤ length results₀) (space : 3 * n ≤ length work₀)
     (pointed : List ℕ) (P : All-pointed ls n work results pointed) where
   -- the in-part is the standing's
   pub in-part : take n work ≡ rounds ls k .inside
@@ -101,9 +109,12 @@ module _ (ls : Lists) (n : ℕ) (size : length ls ≡ n) (k : ℕ) (results work
   follows : Follows ls (rounds ls k) (take n pointed)
   follows j h e = getD-take n pointed j 0 (omega arith) ∙ pointed-in j e
 
-  module _ (marked : List ℕ) (M : marked ≡ take n work ++ (ring-flags (take n work) (take n pointed) ++ drop (2 * n) work)) where
-    flags : List ℕ
-    flags = ring-flags (take n work) (take n pointed)
+  -- the rings are looked for among the first n entries
+  module _ (marked : List ℕ) (told : marked ≡ left-by (Ok tt) (take (n - 0) pointed) work) where
+    M : marked ≡ take n work ++ (ring-flags (take n work) (take n pointed) ++ drop (2 * n) work)
+    M =
+        let e : n - 0 ≡ n = omega arith in
+        marked-as n work pointed (take (n - 0) pointed) marked (rw e) (omega (arith, P .same-length)) told
 
     in-length : length (take n work) ≡ n
     in-length = length-take-le n work (omega arith)
