@@ -1,0 +1,2 @@
+// The exchange as code.
+pub mod running;
