@@ -168,14 +168,14 @@ valid-accepted ls sheet proper (size, v) =
     let fine : (i : ℕ) → i < n → Fine ls sheet i = λ i h. record {
       exists = v .exists i h;
       fresh = is-got-before sheet i (stand-in sheet i)
-      (λ j less same. let z = v .apart j i (omega arith) h same in omega arith);
+          (λ j less same. let z = v .apart j i (omega arith) h same in omega arith);
       dearer = right-dearer sheet n i (getD ls i []) 0
-      (λ j hj. rw (getD-default (getD ls i []) j 0 n hj) (proper i h .0 .1 j hj))
-      (elim (cases-lt (rank ls i i) (rank ls i (stand-in sheet i))) [
-        | inl less ↦ absurd (let z = v .dearer i i h h less in omega arith)
-        | inr own ↦ own
-      ])
-      (λ t b d. v .dearer i t h b d);
+          (λ j hj. rw (getD-default (getD ls i []) j 0 n hj) (proper i h .0 .1 j hj))
+          (elim (cases-lt (rank ls i i) (rank ls i (stand-in sheet i))) [
+            | inl less ↦ absurd (let z = v .dearer i i h h less in omega arith)
+            | inr own ↦ own
+          ])
+          (λ t b d. v .dearer i t h b d);
       together = v .together i h;
     } in
     rw right (fine-all ls sheet 0 n (λ j low high. fine j (omega arith)))
