@@ -34,28 +34,28 @@ module _ (ls : Lists) (n : ℕ) (work was : List ℕ) where
     pointed-more list results′ is e =
         elim (cases-bool (eqb (getD work i 0) 1)) [
           | inl inside ↦ (
-            let now : eqb (getD (take n work) i 0) 1 ≡ true = rw in-same inside in
-            let e′ : results′ ≡ set results i (stand-of i (points-from (take n work) (getD ls i []) 0)) = e ∙ rw (inside, is) in
-            let room′ : i < length results = let s = P .same-length in omega arith in
-            record {
-              same-length = ap length e′ ∙ length-set results i _ ∙ P .same-length;
-              done = λ j h. elim (cases-eq j i) [
-                | inl same ↦ rw (same, e′, now) (getD-set-same results i (stand-of i (points-from (take n work) (getD ls i []) 0)) 0 room′)
-                | inr other ↦ rw e′ (getD-set-other results i j _ 0 other ∙ P .done j (omega arith))
-              ];
-              rest = λ j h. (let other : j ≡ i → ⊥ = λ q. omega arith in rw e′ (getD-set-other results i j _ 0 other ∙ P .rest j (omega arith)));
-            })
+              let now : eqb (getD (take n work) i 0) 1 ≡ true = rw in-same inside in
+              let e′ : results′ ≡ set results i (stand-of i (points-from (take n work) (getD ls i []) 0)) = e ∙ rw (inside, is) in
+              let room′ : i < length results = let s = P .same-length in omega arith in
+              record {
+                same-length = ap length e′ ∙ length-set results i _ ∙ P .same-length;
+                done = λ j h. elim (cases-eq j i) [
+                  | inl same ↦ rw (same, e′, now) (getD-set-same results i (stand-of i (points-from (take n work) (getD ls i []) 0)) 0 room′)
+                  | inr other ↦ rw e′ (getD-set-other results i j _ 0 other ∙ P .done j (omega arith))
+                ];
+                rest = λ j h. (let other : j ≡ i → ⊥ = λ q. omega arith in rw e′ (getD-set-other results i j _ 0 other ∙ P .rest j (omega arith)));
+              })
           | inr outside ↦ (
-            let now : eqb (getD (take n work) i 0) 1 ≡ false = rw in-same outside in
-            let e′ : results′ ≡ results = e ∙ rw outside in
-            record {
-              same-length = ap length e′ ∙ P .same-length;
-              done = λ j h. elim (cases-eq j i) [
-                | inl same ↦ rw (same, e′, now) (P .rest i (omega arith))
-                | inr other ↦ rw e′ (P .done j (omega arith))
-              ];
-              rest = λ j h. rw e′ (P .rest j (omega arith));
-            })
+              let now : eqb (getD (take n work) i 0) 1 ≡ false = rw in-same outside in
+              let e′ : results′ ≡ results = e ∙ rw outside in
+              record {
+                same-length = ap length e′ ∙ P .same-length;
+                done = λ j h. elim (cases-eq j i) [
+                  | inl same ↦ rw (same, e′, now) (P .rest i (omega arith))
+                  | inr other ↦ rw e′ (P .done j (omega arith))
+                ];
+                rest = λ j h. rw e′ (P .rest j (omega arith));
+              })
         ]
 
   -- all have pointed

@@ -285,7 +285,7 @@ module _ (ls : Lists) (n : ℕ) (size : length ls ≡ n) (k : ℕ) (results work
       (λ j h. getD-append-left (replicate (2 * length ls) 0) (outs-of ls ++ drop (3 * length ls) work₀) 0 j (omega arith) ∙ getD-replicate {A = ℕ} (2 * length ls) j 0 0 (omega arith))
       in
       let after : (j : ℕ) → 2 * n ≤ j →
-          getD (replicate (2 * length ls) 0 ++ (outs-of ls ++ drop (3 * length ls) work₀)) j 0 ≡ getD (outs-of ls ++ drop (3 * length ls) work₀) (j - 2 * length ls) 0 =
+      getD (replicate (2 * length ls) 0 ++ (outs-of ls ++ drop (3 * length ls) work₀)) j 0 ≡ getD (outs-of ls ++ drop (3 * length ls) work₀) (j - 2 * length ls) 0 =
       (λ j h. getD-append-right (replicate (2 * length ls) 0) (outs-of ls ++ drop (3 * length ls) work₀) (2 * length ls) j 0 zeros (omega arith))
       in
       ext-getD 0 work (replicate (2 * length ls) 0 ++ (outs-of ls ++ drop (3 * length ls) work₀)) (omega arith)

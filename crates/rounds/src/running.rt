@@ -35,11 +35,7 @@ pub struct Exchanged {
 // Does the exchange of a year with n traders. `results` gets the stand that each trader has at the end, in its first n entries.
 // `work` has 3 n entries of use: who is in (all 0 at the end), the flags of those on rings (all 0 at the end), and the round,
 // from 0, in which each trader went out. A refusal changes nothing that is lent.
-pub fn run_rounds(
-    bytes: &[u8],
-    results: &mut [u16],
-    work: &mut [u16],
-) -> Result<Exchanged, Refusal>
+pub fn run_rounds(bytes: &[u8], results: &mut [u16], work: &mut [u16]) -> Result<Exchanged, Refusal>
     ensures answer { λ r. ⌜ r ≡ unless (run-fault (now (bytes .entry)) (length (now (results .entry))) (length (now (work .entry)))) (exchanged (lists-of (now (bytes .entry)))) ⌝ }
     ensures results { λ r. ⌜ now (results .exit) ≡ results-left r (lists-of (now (bytes .entry))) (now (results .entry)) ⌝ }
     ensures work { λ r. ⌜ now (work .exit) ≡ work-left r (lists-of (now (bytes .entry))) (now (work .entry)) ⌝ }

@@ -5,7 +5,7 @@ ghost use Rattle.rounds.specs.Run.{exchanged, results-left};
 ghost use Rattle.sheet.specs.Exchange.{Promised-by, entries, exchange-fault, put-entry, sheet-left, work-cleared};
 ghost use Rattle.std.specs.declared.option.Option.the-variants.{None};
 ghost use Rattle.std.specs.declared.result.Result.the-variants.{Ok};
-ghost use lib.ListN.{drop, length};
+ghost use lib.ListN.{drop, length, replicate};
 ghost use mathlib.Core.List.{_++_};
 ghost use mathlib.Core.Path.{_≡_};
 use lists::reading::read;
@@ -62,8 +62,16 @@ fn exchange_all(
 {
     let exchanged = run_rounds(bytes, results, work)?;
     write_sheet(sheet, results, work, n);
-    work[0..3 * n].fill(0);
+    clear(work, 3 * n);
     Ok(exchanged)
+}
+
+// Clears the first `count` entries of the work slice.
+fn clear(work: &mut [u16], count: usize)
+    requires { ⌜ count ≤ length (now work) ⌝ }
+    ensures { λ _. ⌜ now (work .exit) ≡ replicate count 0 ++ drop count (now (work .entry)) ⌝ }
+{
+    work[0..count].fill(0);
 }
 
 // Writes one entry of the sheet at byte `at`: the stand got and the round, low byte first.

@@ -28,8 +28,8 @@ rounds-holds c =
     let some = some-traders bs (c .pre .accepted) in
     let ones : (j : ℕ) → j < n → getD (c .let-all-in .last .work) j 0 ≡ 1 =
     (λ j h.
-      let long : length (replicate {A = ℕ} n 1) ≡ n = length-replicate {A = ℕ} n 1 in
-      ap (λ w. getD w j 0) (c .let-all-in .ensures) ∙ getD-append-left (replicate {A = ℕ} n 1) (drop n (c .args .work .now)) 0 j (omega arith) ∙ getD-replicate {A = ℕ} n j 1 0 h)
+    let long : length (replicate {A = ℕ} n 1) ≡ n = length-replicate {A = ℕ} n 1 in
+    ap (λ w. getD w j 0) (c .let-all-in .ensures) ∙ getD-append-left (replicate {A = ℕ} n 1) (drop n (c .args .work .now)) 0 j (omega arith) ∙ getD-replicate {A = ℕ} n j 1 0 h)
     in
     (stands-start (lists-of bs) n size (c .args .results .now) (c .let-all-in .last .work) ones, going-start (lists-of bs) (omega arith))
 

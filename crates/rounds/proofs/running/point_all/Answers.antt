@@ -25,7 +25,7 @@ traders-again c =
     let is : numbers list ≡ getD (lists-of bs) i [] = ap numbers (ensured .0) ∙ begins-list bs i at begins in (
       omega arith,
       pointed-more (lists-of bs) (c .args .n) (c .args .work .now) (c .args .results .now) (c .pre .results) (c .traders .results) i (c .traders .inv .1)
-      (c .traders-test .taken) list (c .point .last .results) is (c .point .ensures),
+          (c .traders-test .taken) list (c .point .last .results) is (c .point .ensures),
     )
 
 pub returns-after-traders : need.returns-after-traders
