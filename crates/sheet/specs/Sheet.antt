@@ -1,7 +1,7 @@
 -- A sheet says for each trader, in the order of numbers, the stand that it got and the round in which it went out, from 0:
 -- two bytes each, low byte first. It shows that an exchange went right, to anybody who has the lists.
 use mathlib.Core.Path.{_≡_}
-use mathlib.Core.Bool.{Bool, true, false, cond, _&&_, _||_, not}
+use mathlib.Core.Bool.{Bool, false, cond, _&&_, _||_, not}
 use mathlib.Core.List.{List, [], _∷_, _++_}
 use Prim.Native.Nat.{ℕ, zero, suc, _+_, _*_, _<_}
 use lib.Dec.{eqb, ltb}
