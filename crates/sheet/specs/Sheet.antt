@@ -65,6 +65,7 @@ abbrev pub entry-fault : List ℕ → ℕ → ℕ → List ℕ → Bool → Opti
 entry-fault sheet n i ts again =
     or-else (taken-fault sheet n i again) (or-else (dearer-fault sheet i ts 0) (holder-fault sheet i))
 
+-- the first fault of trader i; a trader before may have got its stand
 unfoldable pub trader-fault : Lists → List ℕ → ℕ → Option Refusal
 trader-fault ls sheet i = entry-fault sheet (length ls) i (getD ls i []) (got-before sheet i (stand-in sheet i))
 
