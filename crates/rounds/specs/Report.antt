@@ -1,12 +1,13 @@
 -- The text of an exchange's results, as bytes: a first line, and a line for each trader. Each ends with a newline, the byte 10.
 use mathlib.Core.Path.{_≡_}
-use mathlib.Core.Bool.{Bool, true, false, cond, not}
+use mathlib.Core.Bool.{Bool, cond}
 use mathlib.Core.List.{List, [], _∷_, _++_}
-use Prim.Native.Nat.{ℕ, zero, suc, _+_, _-_}
+use Prim.Native.Nat.{ℕ, zero, suc, _-_, _≤_, _<_}
 use lib.Chars.{codes}
-use lib.Dec.{eqb, ltb}
+use lib.Dec.{eqb}
 use lib.ListN.{length, getD, take}
 use Rattle.std.specs.Written.{decimal}
+use Rattle.lists.specs.Trade.{Lists, result}
 
 -- the stand that trader i has got; a number past the last trader's gets nothing and stays what it is
 abbrev pub stand-got : List ℕ → ℕ → ℕ
@@ -73,3 +74,21 @@ lines-of results (suc k) = lines-of results k ++ line-of results k
 -- The whole text: the first line, and a line for each trader.
 abbrev pub report-of : ℕ → List ℕ → List ℕ
 report-of rounds results = head-of rounds results ++ lines-of results (length results)
+
+-- A ring of the exchange's results from trader i on: i is the first, each next is the holder of the stand that the one before
+-- gets, the last gets stand i, and nobody is there twice.
+pub record Ring (ls : Lists) (i : ℕ) (ring : List ℕ) : Type 0 where
+  pub some : 0 < length ring
+  pub few : length ring ≤ length ls
+  pub first : getD ring 0 0 ≡ i
+  pub next : (k : ℕ) → suc k < length ring → getD ring (suc k) 0 ≡ result ls (getD ring k 0)
+  pub last : result ls (getD ring (length ring - 1) 0) ≡ i
+  pub traders : (k : ℕ) → k < length ring → getD ring k 0 < length ls
+  pub apart : (j k : ℕ) → j < length ring → k < length ring → getD ring j 0 ≡ getD ring k 0 → j ≡ k
+
+-- Of the exchange's results, what is written as a trader's ring is its ring.
+unfoldable pub RingWritten : Type 0
+RingWritten =
+    (ls : Lists) (results : List ℕ) → length results ≡ length ls →
+    ((j : ℕ) → j < length ls → getD results j 0 ≡ result ls j) →
+    (i : ℕ) → i < length ls → Ring ls i (ring-from results i)

@@ -1,6 +1,6 @@
 // The text that the program prints of an exchange's results.
 ghost use Prim.Native.Nat.{ℕ, suc, _+_, _-_, _<_};
-ghost use Rattle.rounds.specs.Report.{stand-got, keeps, more, moved, ring-on, ring-from, ring-text, spaced, line-of, lines-of, head-of, report-of};
+ghost use Rattle.rounds.specs.Report.{stand-got, keeps, more, moved, ring-on, ring-from, ring-text, spaced, line-of, lines-of, head-of, report-of, RingWritten};
 ghost use Rattle.std.specs.Of.String.{string-bytes};
 ghost use Rattle.std.specs.Vec.{made};
 ghost use Rattle.std.specs.Written.{decimal};
@@ -143,4 +143,44 @@ pub fn push_report(text: &mut String, rounds: u16, results: &[u16]) -> Result<()
         push_line(text, results, trader)?;
     }
     Ok(())
+}
+
+// Of the exchange's results, what is written as a trader's ring is its ring.
+pub fn ring_written() -> u8
+    ensures { λ _. ⌜ RingWritten ⌝ }
+{
+    0
+}
+
+#[cfg(test)]
+mod tests {
+    use super::push_line;
+    use super::push_report;
+    use std::test::*;
+
+    // 1 and 2 exchange their stands, in the second round
+    #[test]
+    fn three_traders(rt: LibcRuntime) -> Result<(), Fail> {
+        let mut text = String::new(rt.alloc());
+        push_report(&mut text, 2, &[0, 2, 1])?;
+        check_eq(
+            text.as_str(),
+            "rounds 2 moved 2\ntrader 0 keeps\ntrader 1 gets 2 ring 1 2\ntrader 2 gets 1 ring 2 1\n",
+        )
+    }
+
+    // a ring of 27, of which each trader gets the stand of the next
+    #[test]
+    fn long_ring(rt: LibcRuntime) -> Result<(), Fail> {
+        let mut results = [0u16; 27];
+        for i in 0..26u16 {
+            results[i as usize] = i + 1;
+        }
+        let mut text = String::new(rt.alloc());
+        push_line(&mut text, &results, 10)?;
+        check_eq(
+            text.as_str(),
+            "trader 10 gets 11 ring 10 11 12 13 14 15 16 17 18 19 20 21 22 23 24 25 26 0 1 2 and 7 more\n",
+        )
+    }
 }
