@@ -74,11 +74,6 @@ pub pushed : {E : Type 0} (r : Result Unit E) (old new word whole : List ℕ) �
 pushed (Ok u) old new word whole e d = e ∙ d
 pushed (Err f) old new word whole e d = tt
 
-pub pushed-on : {E : Type 0} (r : Result Unit E) (old new word whole : List ℕ) → made r (λ _. new ≡ old ++ word) → old ++ word ≡ whole →
-    made r (λ _. new ≡ whole)
-pushed-on (Ok u) old new word whole e d = e ∙ d
-pushed-on (Err f) old new word whole e d = tt
-
 pub head-joined : (text : List ℕ) (rounds : ℕ) (rs one two : List ℕ) → one ≡ text ++ (codes "rounds " ++ decimal rounds) →
     two ≡ one ++ (codes " moved " ++ decimal (moved rs)) → two ++ newline ≡ text ++ head-of rounds rs
 unfolding head-of
@@ -95,9 +90,9 @@ pub line-gets : (text rs one two three four : List ℕ) (i : ℕ) → one ≡ te
 unfolding line-of
 line-gets text rs one two three four i p k q r s = rw (s, r, q, p, k) (simp append-assoc)
 
-pub ring-joined : (text ring one : List ℕ) → one ≡ text ++ spaced (take 20 ring) → one ++ more (length ring - 20) ≡ text ++ ring-text ring
+pub ring-told : (text ring one : List ℕ) (m : ℕ) → m ≡ length ring → one ≡ text ++ spaced (take 20 ring) → one ++ more (m - 20) ≡ text ++ ring-text ring
 unfolding ring-text
-ring-joined text ring one e = rw e (simp append-assoc)
+ring-told text ring one m e d = rw (e, d) (simp append-assoc)
 
 -- one more line
 pub lines-more : (text rs one two : List ℕ) (k j : ℕ) → j ≡ suc k → one ≡ text ++ lines-of rs k → two ≡ one ++ line-of rs k →

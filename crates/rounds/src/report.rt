@@ -7,6 +7,7 @@ ghost use Rattle.std.specs.Written.{decimal};
 ghost use lib.Chars.{codes};
 ghost use lib.Dec.{eqb, ltb};
 ghost use lib.ListN.{length, take};
+ghost use mathlib.Core.Bool.{not};
 ghost use mathlib.Core.List.{_++_};
 ghost use mathlib.Core.Path.{_≡_};
 use std::alloc::AllocError;
@@ -25,10 +26,18 @@ fn stand_got(results: &[u16], trader: usize) -> usize
     }
 }
 
+// A trader keeps the own stand.
 fn keeps(results: &[u16], trader: usize) -> bool
     ensures { λ r. ⌜ r ≡ keeps (now (results .entry)) trader ⌝ }
 {
     stand_got(results, trader) == trader
+}
+
+// A trader does not keep the own stand.
+fn moves(results: &[u16], trader: usize) -> bool
+    ensures { λ r. ⌜ r ≡ not (keeps (now (results .entry)) trader) ⌝ }
+{
+    !keeps(results, trader)
 }
 
 // The traders at these places of a ring are written.
@@ -75,7 +84,7 @@ fn push_traders(
     home: usize,
     from: usize,
 ) -> Result<usize, AllocError>
-    ensures { λ r. ⌜ made r (λ m. (m ≡ length (ring-on (now (results .entry)) home (length (now (results .entry))) from)) × (string-bytes (now (text .exit)) ≡ string-bytes (now (text .entry)) ++ spaced (take 20 (ring-on (now (results .entry)) home (length (now (results .entry))) from)))) ⌝ }
+    ensures { λ r. ⌜ made r (λ m. string-bytes (now (text .exit)) ++ more (m - 20) ≡ string-bytes (now (text .entry)) ++ ring-text (ring-on (now (results .entry)) home (length (now (results .entry))) from)) ⌝ }
 {
     let mut at = from;
     for place in 0..results.len() {
@@ -118,7 +127,7 @@ fn moved(results: &[u16]) -> usize
 {
     let mut count = 0;
     for i in 0..results.len() {
-        if !keeps(results, i) {
+        if moves(results, i) {
             count += 1;
         }
     }

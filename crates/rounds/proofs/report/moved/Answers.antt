@@ -1,24 +1,25 @@
 use mathlib.Core.Path.{sym}
 use native.Mathlib.Omega.{arith}
-use Rattle.rounds.specs.Report.{moved}
+use Rattle.std.proofs.shelf.Tests.{not-true, not-false}
+use Rattle.rounds.specs.Report.{keeps, moved}
 use Rattle.rounds.proofs.Texts.{moved-end, moved-counts, moved-passes}
 use Rattle.rounds.proofs.report.moved.Needs as need
-use Rattle.rounds.proofs.report.moved.Needs.{then-not-keeps, else-not-keeps}
+use Rattle.rounds.proofs.report.moved.Needs.{then-moves, else-moves}
 
 pub loop-i-again : need.loop-i-again
 loop-i-again c =
-    elim (c .if-not-keeps .came) [
-      | then-not-keeps w ↦
+    elim (c .if-moves .came) [
+      | then-moves w ↦
           rw (w .count-is) (
             omega arith,
             moved-counts (c .args .results .now) (c .loop-i .i) (c .loop-i .count) (moved (c .args .results .now)) (c .loop-i-test .taken)
-                (sym (w .if-not-keeps .ensures tt)) (c .loop-i .inv .1),
+                (not-true (keeps (c .args .results .now) (c .loop-i .i)) (sym (w .if-moves .ensures tt))) (c .loop-i .inv .1),
           )
-      | else-not-keeps w ↦
+      | else-moves w ↦
           rw (w .count-is) (
             omega arith,
             moved-passes (c .args .results .now) (c .loop-i .i) (c .loop-i .count) (moved (c .args .results .now)) (c .loop-i-test .taken)
-                (sym (w .if-not-keeps .ensures tt)) (c .loop-i .inv .1),
+                (not-false (keeps (c .args .results .now) (c .loop-i .i)) (sym (w .if-moves .ensures tt))) (c .loop-i .inv .1),
           )
     ]
 

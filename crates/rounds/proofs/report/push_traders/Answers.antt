@@ -7,7 +7,7 @@ use lib.ListN.{length, take}
 use Rattle.std.specs.Of.String.{string-bytes}
 use Rattle.std.proofs.shelf.Tests.{ltb-true, ltb-false}
 use Rattle.rounds.specs.Report.{ring-on, spaced}
-use Rattle.rounds.proofs.Texts.{Wrote, ring-goes, ring-ends, ring-on-none, count-goes, text-goes, text-ends}
+use Rattle.rounds.proofs.Texts.{Wrote, ring-goes, ring-ends, ring-on-none, count-goes, text-goes, text-ends, ring-told}
 use Rattle.rounds.proofs.report.push_traders.Needs as need
 use Rattle.rounds.proofs.report.push_traders.Needs.{Joined-is-written, then-is-written·in-Continue-push-word, else-is-written}
 
@@ -29,12 +29,11 @@ returns-then-at-home c =
     let whole = string-bytes (c .args .text .now) ++ spaced (take 20 all) in
     let e = ring-ends rs (c .args .home) (length rs) (c .loop-place .place) (c .loop-place .at) (c .stand-got-at .result) (c .loop-place-test .taken)
     (c .stand-got-at .ensures) (c .if-at-home .taken) in
-    let n = count-goes (c .loop-place .place) (length all) (c .loop-place .at) ring [] e (c .loop-place .inv .0) in (
-      omega arith,
-      text-ends (20 - (c .loop-place .place + 1)) (string-bytes (c .if-is-written .text)) whole
-          (text-goes (c .loop-place .place) (c .loop-place .at) (string-bytes (c .loop-place .text)) (string-bytes (c .if-is-written .text)) ring [] whole e
-          (wrote (need.at·returns-then-at-home c .Joined-is-written)) (c .loop-place .inv .1)),
-    )
+    let n = count-goes (c .loop-place .place) (length all) (c .loop-place .at) ring [] e (c .loop-place .inv .0) in
+    ring-told (string-bytes (c .args .text .now)) all (string-bytes (c .if-is-written .text)) (c .loop-place .place + 1) (omega arith)
+    (text-ends (20 - (c .loop-place .place + 1)) (string-bytes (c .if-is-written .text)) whole
+    (text-goes (c .loop-place .place) (c .loop-place .at) (string-bytes (c .loop-place .text)) (string-bytes (c .if-is-written .text)) ring [] whole e
+    (wrote (need.at·returns-then-at-home c .Joined-is-written)) (c .loop-place .inv .1)))
 
 pub loop-place-again : need.loop-place-again
 loop-place-again c =
@@ -56,8 +55,7 @@ returns c =
     let all = ring-on rs (c .args .home) (length rs) (c .args .from) in
     let e : ring-on rs (c .args .home) (length rs - c .loop-place .place) (c .loop-place .at) ≡ [] =
     ring-on-none rs (c .args .home) (length rs - c .loop-place .place) (c .loop-place .at) (omega arith) in
-    let n : c .loop-place .place + 0 ≡ length all = rw e at (c .loop-place .inv .0) in (
-      omega arith,
-      text-ends (20 - c .loop-place .place) (string-bytes (c .loop-place .text)) (string-bytes (c .args .text .now) ++ spaced (take 20 all))
-          (rw e at (c .loop-place .inv .1)),
-    )
+    let n : c .loop-place .place + 0 ≡ length all = rw e at (c .loop-place .inv .0) in
+    ring-told (string-bytes (c .args .text .now)) all (string-bytes (c .loop-place .text)) (length rs) (omega arith)
+    (text-ends (20 - c .loop-place .place) (string-bytes (c .loop-place .text)) (string-bytes (c .args .text .now) ++ spaced (take 20 all))
+    (rw e at (c .loop-place .inv .1)))
