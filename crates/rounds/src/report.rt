@@ -181,12 +181,13 @@ mod tests {
     // a ring of 27, of which each trader gets the stand of the next
     #[test]
     fn long_ring(rt: LibcRuntime) -> Result<(), Fail> {
-        let mut results = [0u16; 27];
-        for i in 0..26u16 {
-            results[i as usize] = i + 1;
+        let mut results = Vec::new(rt.alloc());
+        for next in 1..27u16 {
+            results.push(next)?;
         }
+        results.push(0)?;
         let mut text = String::new(rt.alloc());
-        push_line(&mut text, &results, 10)?;
+        push_line(&mut text, results.as_slice(), 10)?;
         check_eq(
             text.as_str(),
             "trader 10 gets 11 ring 10 11 12 13 14 15 16 17 18 19 20 21 22 23 24 25 26 0 1 2 and 7 more\n",
