@@ -2,6 +2,11 @@
 mod options;
 mod output;
 
+ghost use Rattle.rounds.specs.Report.{report-of};
+ghost use Rattle.std.specs.Of.String.{string-bytes};
+ghost use Rattle.std.specs.Of.Vec.{vec-items};
+ghost use Rattle.std.specs.Vec.{made};
+ghost use mathlib.Core.Path.{_≡_};
 use console::Ended;
 use console::EndedDebug;
 use console::EndedFromAlloc;
@@ -11,8 +16,7 @@ use console::refusal_line;
 use lists::refusals::Refusal;
 use options::Command;
 use options::Options;
-use rounds::report::push_head;
-use rounds::report::push_line;
+use rounds::report::push_report;
 use rounds::running::Exchanged;
 use sheet::exchanging::exchange;
 use std::alloc::AllocError;
@@ -51,12 +55,11 @@ fn exchange_year(heap: Global, bytes: &[u8]) -> Result<Result<Year, Refusal>, Al
 }
 
 // The whole report, so that it is written at once.
-fn report(heap: Global, year: &Year) -> Result<String, AllocError> {
+fn report(heap: Global, year: &Year) -> Result<String, AllocError>
+    ensures { λ r. ⌜ made r (λ text. string-bytes text ≡ report-of (now (year .entry) .exchanged .rounds) (vec-items (now (year .entry) .results))) ⌝ }
+{
     let mut text = String::new(heap);
-    push_head(&mut text, year.exchanged.rounds, year.results.as_slice())?;
-    for trader in 0..year.results.len() {
-        push_line(&mut text, year.results.as_slice(), trader)?;
-    }
+    push_report(&mut text, year.exchanged.rounds, year.results.as_slice())?;
     Ok(text)
 }
 
