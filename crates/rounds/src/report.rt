@@ -62,7 +62,7 @@ fn push_digit(text: &mut String, digit: usize) -> Result<(), AllocError>
     text.push((b'0' + digit as u8) as char)
 }
 
-// Appends a number, digit by digit: a report has many, and `write!` takes ten times as long for one.
+// Appends a number, digit by digit: with `write!` a report takes more than twice as long.
 fn push_number(text: &mut String, number: usize) -> Result<(), AllocError>
     ensures { λ r. ⌜ made r (λ _. string-bytes (now (text .exit)) ≡ string-bytes (now (text .entry)) ++ decimal number) ⌝ }
 {
