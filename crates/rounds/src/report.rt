@@ -1,12 +1,11 @@
 // The text that the program prints of an exchange's results.
-ghost use Prim.Native.Nat.{ℕ, suc, _+_, _-_, _<_};
-ghost use Rattle.rounds.specs.Report.{stand-got, keeps, more, moved, ring-on, ring-from, ring-text, spaced, line-of, lines-of, head-of, report-of, RingWritten};
+ghost use Prim.Native.Nat.{_+_, _-_, _<_};
+ghost use Rattle.rounds.specs.Report.{stand-got, keeps, more, moved, ring-on, ring-from, ring-text, line-of, head-of, report-of, RingWritten};
 ghost use Rattle.std.specs.Of.String.{string-bytes};
 ghost use Rattle.std.specs.Vec.{made};
 ghost use Rattle.std.specs.Written.{decimal};
-ghost use lib.Chars.{codes};
-ghost use lib.Dec.{eqb, ltb};
-ghost use lib.ListN.{length, take};
+ghost use lib.Dec.{ltb};
+ghost use lib.ListN.{length};
 ghost use mathlib.Core.Bool.{not};
 ghost use mathlib.Core.List.{[], _∷_, _++_};
 ghost use mathlib.Core.Path.{_≡_};
