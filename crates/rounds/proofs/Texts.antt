@@ -1,16 +1,17 @@
 -- One more trader counted, and one more of a ring written.
-use mathlib.Core.Path.{_≡_, refl, sym, ap, _∙_}
-use mathlib.Core.Bool.{Bool, true, false, cond}
+use mathlib.Core.Path.{_≡_, ap, _∙_}
+use mathlib.Core.Bool.{true, false, cond}
 use mathlib.Core.List.{List, [], _∷_, _++_, append-assoc, append-nil}
 use mathlib.Core.Logic.{_⊎_, inl, inr}
-use Prim.Native.Nat.{ℕ, zero, suc, _+_, _-_, _≤_, _<_}
+use Prim.Native.Nat.{ℕ, suc, _+_, _-_, _/_, _%_, _^_, _≤_, _<_}
 use native.Mathlib.Numerals.{add-one}
 use native.Mathlib.Omega.{arith}
 use lib.Chars.{codes}
-use lib.Dec.{eqb, ltb}
-use lib.ListN.{length, getD, take, drop}
+use lib.Dec.{eqb}
+use lib.ListN.{length, take, drop}
 use lib.Seq.{drop-cons, take-nil}
 use Rattle.std.specs.Written.{decimal}
+use Rattle.std.proofs.shelf.Decimals.{decimal-step}
 use Rattle.std.proofs.shelf.Lists.{drop-all}
 use Rattle.std.proofs.shelf.Tests.{eq-eqb, ne-eqb}
 use Rattle.std.specs.declared.result.Result.{Result}
@@ -73,6 +74,18 @@ pub pushed : {E : Type 0} (r : Result Unit E) (old new word whole : List ℕ) �
     made r (λ _. new ≡ whole)
 pushed (Ok u) old new word whole e d = e ∙ d
 pushed (Err f) old new word whole e d = tt
+
+pub pushed-on : {E : Type 0} (r : Result Unit E) (old new word whole : List ℕ) → made r (λ _. new ≡ old ++ word) → old ++ word ≡ whole →
+    made r (λ _. new ≡ whole)
+pushed-on (Ok u) old new word whole e d = e ∙ d
+pushed-on (Err f) old new word whole e d = tt
+
+-- the last digit after the others
+pub number-joined : (text one : List ℕ) (n : ℕ) → 10 ≤ n → n < 2 ^ 64 → one ≡ text ++ decimal (n / 10) → one ++ ((48 + n % 10) ∷ []) ≡ text ++ decimal n
+number-joined text one n l h e = rw (e, decimal-step n l h) (append-assoc text (decimal (n / 10)) ((48 + n % 10) ∷ []))
+
+pub word-joined : (text one word : List ℕ) (n : ℕ) → one ≡ text ++ word → one ++ decimal n ≡ text ++ (word ++ decimal n)
+word-joined text one word n e = rw e (append-assoc text word (decimal n))
 
 pub head-joined : (text : List ℕ) (rounds : ℕ) (rs one two : List ℕ) → one ≡ text ++ (codes "rounds " ++ decimal rounds) →
     two ≡ one ++ (codes " moved " ++ decimal (moved rs)) → two ++ newline ≡ text ++ head-of rounds rs
