@@ -1,15 +1,15 @@
 -- What the marks say between two walks: who is marked, and that those on rings are told apart.
 use mathlib.Core.Path.{_≡_, refl, sym, _∙_, ap, subst}
-use mathlib.Core.Bool.{Bool, true, false, cond, _&&_}
-use mathlib.Core.List.{List, [], _∷_}
-use mathlib.Core.Logic.{_⊎_, inl, inr}
+use mathlib.Core.Bool.{true, false}
+use mathlib.Core.List.{List}
+use mathlib.Core.Logic.{inl, inr}
 use Prim.Native.Nat.{ℕ, zero, suc, _+_, _-_, _≤_, _<_}
 use native.Mathlib.Omega.{arith}
 use lib.Dec.{eqb, ltb}
 use lib.ListN.{length, getD, replicate, length-replicate, getD-replicate}
-use Rattle.std.proofs.shelf.Tests.{cases-bool, cases-eq, cases-lt, eq-eqb, ne-eqb, lt-ltb, both-ways}
+use Rattle.std.proofs.shelf.Tests.{cases-bool, cases-eq, cases-lt, eq-eqb, ne-eqb, lt-ltb}
 use Rattle.rings.specs.Ring.{step, walk-along, back, on-ring-of}
-use Rattle.rings.specs.Walk.{Walked, Told, unmet, has-mark}
+use Rattle.rings.specs.Walk.{Walked, Told, unmet}
 use Rattle.rings.proofs.Steps.{walk-suc, walk-then, came-in, step-past, back-from, back-gives}
 use Rattle.rings.proofs.Marks.{unmet-most}
 use Rattle.rings.proofs.Around.{Ringed}

@@ -1,17 +1,18 @@
 -- Where `next` says to whom each trader who is in points, the rings of `next` are the rings of the exchange.
-use mathlib.Core.Path.{_≡_, refl, sym, _∙_, ap, ap₂}
-use mathlib.Core.Bool.{Bool, true, false, cond, _&&_}
+use mathlib.Core.Path.{_≡_, refl, sym, _∙_, ap}
+use mathlib.Core.Bool.{true, false, cond}
 use mathlib.Core.List.{List, [], _∷_}
-use mathlib.Core.Logic.{_⊎_, inl, inr}
-use Prim.Native.Nat.{ℕ, zero, suc, _+_, _≤_, _<_}
+use mathlib.Core.Logic.{inl, inr}
+use Prim.Native.Nat.{ℕ, zero, suc, _*_, _≤_, _<_}
 use native.Mathlib.Omega.{arith}
 use lib.Dec.{eqb, ltb}
 use lib.ListN.{length, getD}
 use Rattle.std.proofs.shelf.Lists.{getD-past, getD-default}
-use Rattle.std.proofs.shelf.Counted.{getD-map-counting}
-use Rattle.std.proofs.shelf.Tests.{cases-bool, cases-lt, lt-ltb, both-ways}
+use Rattle.std.proofs.shelf.Counted.{getD-map-counting, length-map-counting}
+use Rattle.std.proofs.shelf.Tests.{cases-bool, cases-lt, lt-ltb, le-ltb, ne-eqb, both-ways}
 use Rattle.lists.specs.Trade.{Lists, Standing, is-in, first-in, points, walk, comes-back, on-ring}
-use Rattle.rings.specs.Ring.{step, walk-along, back, on-ring-of, flag, ring-flags}
+use Rattle.rings.specs.Ring.{step, walk-along, back, on-ring-of, flag, ring-flags, answer}
+use Rattle.std.specs.declared.result.Result.the-variants.{Ok}
 
 -- nobody past the last trader is in
 in-below : (s : Standing) (t : ℕ) → is-in s t ≡ true → t < length (s .inside)
@@ -71,3 +72,15 @@ module _ (ls : Lists) (s : Standing) (next : List ℕ) (n-next : length next ≡
         | inl h ↦ let r = ring-law i l h in rw (h, r)
         | inr h ↦ rw h
       ]
+
+pub length-ring-flags : (inside next : List ℕ) → length (ring-flags inside next) ≡ length next
+unfolding ring-flags
+length-ring-flags inside next = length-map-counting (flag inside next) 0 (length next)
+
+-- the call is not refused
+pub answer-ok : (next work : List ℕ) → 0 < length next → length next ≤ 4000 → 2 * length next ≤ length work → answer next work ≡ Ok tt
+answer-ok next work some most room =
+    let a : eqb (length next) 0 ≡ false = ne-eqb (length next) 0 (λ e. omega arith) in
+    let b : ltb 4000 (length next) ≡ false = le-ltb 4000 (length next) most in
+    let c : ltb (length work) (2 * length next) ≡ false = le-ltb (length work) (2 * length next) room in
+    rw (a, b, c)

@@ -4,3 +4,4 @@ pub mod Around
 pub mod Found
 pub mod Flags
 pub mod Law
+pub mod Any

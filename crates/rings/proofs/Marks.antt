@@ -1,14 +1,14 @@
 -- The marks that a walk makes, one trader after another.
-use mathlib.Core.Path.{_≡_, refl, sym, _∙_, ap, subst}
-use mathlib.Core.Bool.{Bool, true, false, cond}
+use mathlib.Core.Path.{_≡_, refl, sym, _∙_, subst}
+use mathlib.Core.Bool.{true, false}
 use mathlib.Core.List.{List, [], _∷_}
-use mathlib.Core.Logic.{_⊎_, inl, inr, _≢_}
-use Prim.Native.Nat.{ℕ, zero, suc, _+_, _≤_, _<_}
+use mathlib.Core.Logic.{_⊎_, inl, inr}
+use Prim.Native.Nat.{ℕ, zero, suc, _≤_, _<_}
 use native.Mathlib.Omega.{arith}
 use lib.Dec.{eqb, ltb}
 use lib.ListN.{length, getD, set}
 use Rattle.std.proofs.shelf.Lists.{getD-default, getD-set-same, getD-set-other, length-set}
-use Rattle.std.proofs.shelf.Tests.{cases-bool, cases-eq, eqb-true, eq-eqb, ne-eqb, ltb-true, lt-ltb, and-parts, and-from, both-ways}
+use Rattle.std.proofs.shelf.Tests.{cases-eq, eqb-true, eq-eqb, ne-eqb, ltb-true, lt-ltb, and-parts, and-from, both-ways}
 use Rattle.rings.specs.Ring.{step, walk-along}
 use Rattle.rings.specs.Walk.{unmet, has-mark, Walked}
 

@@ -1,12 +1,12 @@
 -- Walks along `next`: how their steps add up, and what a walk that comes back cannot leave.
-use mathlib.Core.Path.{_≡_, refl, sym, _∙_, ap, subst}
-use mathlib.Core.Bool.{Bool, true, false, cond}
+use mathlib.Core.Path.{_≡_, refl, _∙_, ap, subst}
+use mathlib.Core.Bool.{true}
 use mathlib.Core.List.{List}
-use mathlib.Core.Logic.{_⊎_, inl, inr}
+use mathlib.Core.Logic.{inl, inr}
 use Prim.Native.Nat.{ℕ, zero, suc, _+_, _≤_, _<_}
 use native.Mathlib.Omega.{arith}
 use lib.Dec.{eqb}
-use lib.ListN.{length, getD}
+use lib.ListN.{length}
 use Rattle.std.proofs.shelf.Lists.{getD-past}
 use Rattle.std.proofs.shelf.Tests.{cases-bool, cases-eq, cases-lt, eqb-true, eq-eqb}
 use Rattle.rings.specs.Ring.{step, walk-along, back}
@@ -49,7 +49,7 @@ pub step-past : (next : List ℕ) (y : ℕ) → length next ≤ y → length nex
 unfolding step
 step-past next y h = omega (arith, getD-past next y (length next) h)
 
--- a ring has no nobody
+-- a walk around a ring never comes to nobody
 pub ring-within : (next : List ℕ) (k c x : ℕ) → walk-along next (suc k) x ≡ x → x < length next → walk-along next c x < length next
 ring-within next k c x e h =
     elim (cases-lt (walk-along next c x) (length next)) [

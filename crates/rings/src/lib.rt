@@ -1,4 +1,4 @@
-// Who is on a ring: each trader points to the stand of another, and a walk along the stands pointed to leads back to some.
+// Who is on a ring: a walk from each trader to the holder of the stand that it points to, and on, may come back to it.
 ghost use Prim.Native.Nat.{_*_, _+_, _<_, _≤_};
 ghost use Rattle.rings.specs.Ring.{answer, left-by};
 ghost use Rattle.rings.specs.Walk.{Told, Walked, flag-of, flagged, has-mark, unmet};
@@ -33,7 +33,8 @@ pub fn mark_rings(next: &[u16], work: &mut [u16]) -> Result<(), Refusal>
     Ok(())
 }
 
-// Marks all traders, those on rings with RING. Each is met once, so the work grows with their number.
+// Marks all traders, those on rings with RING. Each is met once, so the time grows with their number.
+// Those who are out are walked from too, since a ring may pass through them.
 fn mark_all(next: &[u16], marks: &mut [u16])
     requires same { ⌜ length (now marks) ≡ length (now next) ⌝ }
     requires most { ⌜ length (now next) ≤ 4000 ⌝ }

@@ -1,3 +1,5 @@
+pub mod Entries
+pub mod Promise
 pub mod Checked
 pub mod Dearer
 pub mod Traders

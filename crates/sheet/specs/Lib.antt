@@ -1,2 +1,3 @@
 pub mod Sheet
+pub mod Exchange
 pub mod Check

@@ -192,3 +192,56 @@ pub fn accepts_what_was_written() -> u8
 {
     0
 }
+
+#[cfg(test)]
+mod tests {
+    use super::*;
+    use std::test::Fail;
+    use std::test::check_eq;
+
+    // trader 0 lists 1, trader 1 lists 2, trader 2 lists 1 and 0
+    const YEAR: [u8; 13] = [3, 0, 1, 1, 0, 1, 2, 0, 2, 1, 0, 0, 0];
+
+    // the number and the place of a refusal, or 0 and the number of traders
+    fn outcome(bytes: &[u8], sheet: &[u8]) -> (u8, usize) {
+        match check(bytes, sheet) {
+            Ok(n) => (0, n as usize),
+            Err(refusal) => (refusal.number(), refusal.place()),
+        }
+    }
+
+    // the outcome for the year with these stands and rounds
+    fn with(stands: [u8; 3], rounds: [u8; 3]) -> (u8, usize) {
+        let [a, b, c] = stands;
+        let [d, e, f] = rounds;
+        outcome(&YEAR, &[a, 0, d, 0, b, 0, e, 0, c, 0, f, 0])
+    }
+
+    #[test]
+    fn valid_sheets_are_accepted() -> Result<(), Fail> {
+        check_eq(with([0, 2, 1], [1, 0, 0]), (0, 3))?;
+        // the rounds drawn out
+        check_eq(with([0, 2, 1], [2, 0, 0]), (0, 3))?;
+        check_eq(with([0, 2, 1], [9, 5, 5]), (0, 3))
+    }
+
+    #[test]
+    fn refusals_have_number_and_place() -> Result<(), Fail> {
+        check_eq(outcome(&[2, 0, 0], &[]), (1, 3))?;
+        check_eq(outcome(&YEAR, &[0; 11]), (6, 11))?;
+        check_eq(outcome(&YEAR, &[0; 16]), (6, 16))?;
+        check_eq(with([3, 2, 1], [1, 0, 0]), (7, 0))?;
+        check_eq(with([0, 2, 2], [1, 0, 0]), (7, 2))?;
+        check_eq(with([0, 2, 1], [0, 0, 0]), (8, 0))?;
+        // a stand that is not listed: the own one is dearer, past the list of one
+        check_eq(with([2, 1, 0], [1, 0, 0]), (8, 1))?;
+        check_eq(with([0, 2, 1], [1, 0, 1]), (9, 1))
+    }
+
+    #[test]
+    fn the_most_contented_sharing_is_refused() -> Result<(), Fail> {
+        // each has a stand that it listed, but traders 1 and 2 could do better
+        check_eq(with([1, 2, 0], [0, 0, 0]), (8, 128))?;
+        check_eq(with([1, 2, 0], [0, 0, 1]), (9, 1))
+    }
+}

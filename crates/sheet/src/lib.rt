@@ -1,2 +1,3 @@
-// The sheet: what the exchange hands out, and the checker for anybody's sheet.
+// The sheet: the public exchange that writes it, and the checker for anybody's sheet.
 pub mod checking;
+pub mod exchanging;

@@ -1,8 +1,7 @@
 -- A walk stops where it should since the steps that are left are at least as many as the traders who are unmet.
-use mathlib.Core.Path.{_≡_}
 use native.Mathlib.Omega.{arith}
 use Prim.Native.Nat.{_<_, _-_}
-use lib.ListN.{length, set, length-set}
+use lib.ListN.{length-set}
 use Rattle.rings.specs.Walk.{unmet}
 use Rattle.rings.proofs.Marks.{walked-none, walked-on, unmet-has, unmet-set, has-mark-parts, has-mark-not}
 use Rattle.rings.proofs.+walk.Needs as need

@@ -1,8 +1,8 @@
 -- One trader's walk after another: each leaves the marks as `Done` says, with those on the ring that it found marked.
-use mathlib.Core.Path.{_≡_, refl, sym, _∙_, ap, subst}
+use mathlib.Core.Path.{_≡_, sym, _∙_, ap, subst}
 use native.Mathlib.Omega.{arith}
 use borrow.Author.Needs.{needs}
-use Prim.Native.Nat.{ℕ, _+_, _<_}
+use Prim.Native.Nat.{_+_, _<_}
 use lib.ListN.{length, replicate}
 use Rattle.rings.proofs.Marks.{has-mark-parts, has-mark-not}
 use Rattle.rings.proofs.Around.{Ringed, going-on, going-more, going-back, going-within}

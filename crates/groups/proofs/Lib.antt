@@ -1,0 +1,5 @@
+pub mod Outcomes
+pub mod Prefixes
+pub mod Ranks
+pub mod Tables
+pub mod Unbettered

@@ -1,0 +1,60 @@
+-- A group of traders that could do better among themselves, and what the search for one answers.
+use mathlib.Core.Path.{_≡_}
+use mathlib.Core.Bool.{Bool, true, false, cond, not}
+use mathlib.Core.List.{List}
+use Prim.Native.Nat.{ℕ, _≤_, _<_}
+use lib.Dec.{eqb, ltb}
+use lib.ListN.{length, getD}
+use Rattle.std.specs.declared.option.Option.{Option}
+use Rattle.std.specs.declared.option.Option.the-variants.{Some, None}
+use Rattle.std.specs.declared.result.Result.{Result}
+use Rattle.std.specs.declared.result.Result.the-variants.{Ok, Err}
+use Rattle.lists.specs.declared.refusals.Lent.the-variants.{Results}
+use Rattle.lists.specs.declared.refusals.Refusal.{Refusal}
+use Rattle.lists.specs.declared.refusals.Refusal.the-variants.{TooShort}
+use Rattle.lists.specs.Format.{fault, lists-of, number-at}
+use Rattle.lists.specs.Promise.{rank}
+use Rattle.lists.specs.Trade.{Lists}
+use Rattle.groups.specs.declared.Answer.{Answer}
+use Rattle.groups.specs.declared.Answer.the-variants.{Bettered, Unbettered}
+use Rattle.groups.specs.declared.Unsearched.{Unsearched}
+use Rattle.groups.specs.declared.Unsearched.the-variants.{Refused, TooMany}
+
+-- A group that could do better among themselves than what everybody got, by a share of the stands that it brought: each
+-- member has the stand of a member, no two the same, none a stand less dear than the one got, and some member another.
+pub record Betters (ls : Lists) (got : ℕ → ℕ) (group : ℕ → Bool) (share : ℕ → ℕ) : Type 0 where
+  pub among : (i : ℕ) → i < length ls → group i ≡ true → (share i < length ls) × (group (share i) ≡ true)
+  pub apart : (i j : ℕ) → i < length ls → j < length ls → group i ≡ true → group j ≡ true → share i ≡ share j → i ≡ j
+  pub no-less-dear : (i : ℕ) → i < length ls → group i ≡ true → rank ls i (share i) ≤ rank ls i (got i)
+  pub another : (i : ℕ) × (i < length ls) × (group i ≡ true) × (share i ≡ got i → ⊥)
+
+-- the stand that stands at place i, from 0
+abbrev pub stand-of : List ℕ → ℕ → ℕ
+stand-of stands i = getD stands i 0
+
+-- who is in the group, by the share that was found: 65535 says that a trader is not
+abbrev pub in-group : List ℕ → ℕ → Bool
+in-group share i = not (eqb (getD share i 0) 65535)
+
+-- a fault of the lists comes before everything else
+abbrev pub or-refused : Option Refusal → Option Unsearched → Option Unsearched
+or-refused (Some f) later = Some (Refused f)
+or-refused None later = later
+
+-- Why no search is made: the first fault of the lists; else more than 8 traders; else fewer results than traders. None
+-- where one is made.
+unfoldable pub unsearched : List ℕ → List ℕ → Option Unsearched
+unsearched bs results =
+    or-refused (fault bs)
+    (cond (ltb 8 (number-at bs 0)) (Some TooMany)
+    (cond (ltb (length results) (number-at bs 0)) (Some (Refused (TooShort Results))) None))
+
+-- What the search answers: why none is made; or a group and its share that better the results; or that no group does,
+-- whatever the group and its share.
+abbrev pub Outcome : List ℕ → List ℕ → Result Answer Unsearched → Type 0
+Outcome bs results (Err e) = unsearched bs results ≡ Some e
+Outcome bs results (Ok (Bettered share)) =
+    (unsearched bs results ≡ None) × Betters (lists-of bs) (stand-of results) (in-group share) (stand-of share)
+Outcome bs results (Ok Unbettered) =
+    (unsearched bs results ≡ None)
+    × ((group : ℕ → Bool) (share : ℕ → ℕ) → Betters (lists-of bs) (stand-of results) group share → ⊥)

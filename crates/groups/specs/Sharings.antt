@@ -1,0 +1,58 @@
+-- What the search for a group goes by: a table of what may be given, and choices made for the first traders.
+use mathlib.Core.Path.{_≡_}
+use mathlib.Core.Bool.{Bool, true, false}
+use mathlib.Core.List.{List}
+use Prim.Native.Nat.{ℕ, _+_, _*_, _<_}
+use lib.Dec.{leb}
+use lib.ListN.{length, getD}
+use Rattle.lists.specs.Promise.{rank}
+use Rattle.lists.specs.Trade.{Lists}
+use Rattle.groups.specs.Groups.{in-group, stand-of}
+
+-- stand t may be given to trader i
+abbrev pub may : List Bool → ℕ → ℕ → Bool
+may table i t = getD table (8 * i + t) false
+
+-- the table has what is no less dear than the stand got, for the stands t of trader i before the entry
+abbrev pub Right : Lists → List ℕ → ℕ → ℕ → List Bool → Type 0
+Right ls results n entry table =
+    (i t : ℕ) → i < n → t < n → 8 * i + t < entry → may table i t ≡ leb (rank ls i t) (rank ls i (stand-of results i))
+
+-- a group of n traders that could do better, by the table
+pub record Sharing (n : ℕ) (table : List Bool) (got : ℕ → ℕ) (group : ℕ → Bool) (share : ℕ → ℕ) : Type 0 where
+  pub among : (i : ℕ) → i < n → group i ≡ true → (share i < n) × (group (share i) ≡ true)
+  pub apart : (i j : ℕ) → i < n → j < n → group i ≡ true → group j ≡ true → share i ≡ share j → i ≡ j
+  pub fine : (i : ℕ) → i < n → group i ≡ true → may table i (share i) ≡ true
+  pub another : (i : ℕ) × (i < n) × (group i ≡ true) × (share i ≡ got i → ⊥)
+
+-- the choices for the first i traders break nothing
+pub record Sound (n : ℕ) (table : List Bool) (chosen : List ℕ) (i : ℕ) : Type 0 where
+  pub below : (j : ℕ) → j < i → in-group chosen j ≡ true → stand-of chosen j < n
+  pub fine : (j : ℕ) → j < i → in-group chosen j ≡ true → may table j (stand-of chosen j) ≡ true
+  pub apart : (j k : ℕ) → j < i → k < i → in-group chosen j ≡ true → in-group chosen k ≡ true → stand-of chosen j ≡ stand-of chosen k → j ≡ k
+
+-- a group and its share go by the choices for the first i traders
+abbrev pub Agrees : List ℕ → ℕ → (ℕ → Bool) → (ℕ → ℕ) → Type 0
+Agrees chosen i group share =
+    (j : ℕ) → j < i → (group j ≡ in-group chosen j) × (group j ≡ true → share j ≡ stand-of chosen j)
+
+-- no group that goes by the choices for the first i traders could do better
+abbrev pub Hopeless : ℕ → List Bool → (ℕ → ℕ) → List ℕ → ℕ → Type 0
+Hopeless n table got chosen i =
+    (group : ℕ → Bool) (share : ℕ → ℕ) → Agrees chosen i group share → Sharing n table got group share → ⊥
+
+-- every stand chosen is one that the group brought
+abbrev pub Brought : ℕ → List ℕ → Type 0
+Brought n chosen = (j : ℕ) → j < n → in-group chosen j ≡ true → in-group chosen (stand-of chosen j) ≡ true
+
+-- some stand chosen is one that the group did not bring
+abbrev pub Unbrought : ℕ → List ℕ → Type 0
+Unbrought n chosen = (j : ℕ) × (j < n) × (in-group chosen j ≡ true) × (in-group chosen (stand-of chosen j) ≡ false)
+
+-- somebody in the group has another stand than the one got
+abbrev pub Differs : ℕ → List ℕ → List ℕ → Type 0
+Differs n results chosen = (j : ℕ) × (j < n) × (in-group chosen j ≡ true) × (stand-of chosen j ≡ stand-of results j → ⊥)
+
+-- everybody in the group has the stand got
+abbrev pub Same : ℕ → List ℕ → List ℕ → Type 0
+Same n results chosen = (j : ℕ) → j < n → in-group chosen j ≡ true → stand-of chosen j ≡ stand-of results j

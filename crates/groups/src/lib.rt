@@ -1,0 +1,283 @@
+// The search through all groups of a year of few traders, and all ways in which a group could share the stands that it
+// brought, for one that does better than results give. It goes by the lists and the results alone.
+ghost use Prim.Native.Nat.{ℕ, _+_, _*_, _≤_, _<_};
+ghost use lib.Dec.{leb};
+ghost use lib.ListN.{length, getD};
+ghost use mathlib.Core.Bool.{true, false};
+ghost use mathlib.Core.List.{[]};
+ghost use mathlib.Core.Path.{_≡_};
+ghost use Rattle.std.specs.Options.{Cases as BySome};
+ghost use Rattle.std.specs.declared.option.Option.the-variants.{None};
+ghost use Rattle.lists.specs.Format.{fault, lists-of, number-at, numbers};
+ghost use Rattle.lists.specs.Promise.{rank-in};
+ghost use Rattle.groups.specs.Groups.{in-group, Outcome, stand-of};
+ghost use Rattle.groups.specs.Sharings.{Brought, Differs, Hopeless, Right, Same, Sharing, Sound, Unbrought};
+use lists::reading::list_at;
+use lists::reading::read;
+use lists::reading::start_of;
+use lists::refusals::Lent;
+use lists::refusals::Refusal;
+use lists::refusals::RefusalDebug;
+use lists::refusals::RefusalPartialEq;
+
+// the most traders that a search is made for
+const MOST: usize = 8;
+
+// in a share: not in the group
+pub const OUT: u16 = 65535;
+
+#[derive(Clone, Copy, PartialEq, Eq, Debug)]
+pub enum Answer {
+    // each trader's stand by the share, and OUT for those who are not in the group
+    Bettered { share: [u16; 8] },
+    Unbettered,
+}
+
+#[derive(Clone, Copy, PartialEq, Eq, Debug)]
+pub enum Unsearched {
+    Refused { refusal: Refusal },
+    // more than 8 traders
+    TooMany,
+}
+
+// The stand at a place of a list.
+fn stand_at(list: &[u8], place: usize) -> u16
+    requires { ⌜ 2 * place + 1 < length (now list) ⌝ }
+    ensures { λ r. ⌜ r ≡ number-at (now (list .entry)) (2 * place) ⌝ }
+{
+    u16::from_le_bytes([list[2 * place], list[2 * place + 1]])
+}
+
+// The rank of a stand by a list: its place; then comes the own stand, and then all others.
+fn rank_of(list: &[u8], own: u16, stand: u16) -> usize
+    ensures { λ r. ⌜ r ≡ rank-in (numbers (now (list .entry))) own stand ⌝ }
+{
+    let places = list.len() / 2;
+    for place in 0..places {
+        if stand_at(list, place) == stand {
+            return place;
+        }
+    }
+    if stand == own { places } else { places + 1 }
+}
+
+// A stand is no less dear, by a list, than the one got.
+fn no_less_dear(list: &[u8], own: u16, stand: u16, got: u16) -> bool
+    ensures { λ r. ⌜ r ≡ leb (rank-in (numbers (now (list .entry))) own stand) (rank-in (numbers (now (list .entry))) own got) ⌝ }
+{
+    rank_of(list, own, stand) <= rank_of(list, own, got)
+}
+
+// The table of what may be given: entry 8 * i + t says that stand t is no less dear to trader i than the one got.
+fn table_of(bytes: &[u8], results: &[u16], n: u16) -> [bool; 64]
+    requires accepted { ⌜ fault (now bytes) ≡ None ⌝ ∗ ⌜ n ≡ number-at (now bytes) 0 ⌝ }
+    requires few { ⌜ n ≤ 8 ⌝ ∗ ⌜ n ≤ length (now results) ⌝ }
+    ensures { λ r. ⌜ Right (lists-of (now (bytes .entry))) (now (results .entry)) n 64 r ⌝ }
+{
+    let mut table = [false; 64];
+    for i in 0..n {
+        let Some(list) = list_at(bytes, start_of(bytes, i)) else {
+            unreachable()
+        };
+        for t in 0..n {
+            table[8 * i as usize + t as usize] = no_less_dear(list, i, t, results[i as usize]);
+        }
+    }
+    table
+}
+
+// A stand was chosen for one of the first i traders.
+fn taken(chosen: &[u16], i: usize, stand: u16) -> bool
+    requires { ⌜ i ≤ length (now chosen) ⌝ }
+    ensures found { λ r. ⌜ (r ≡ true → ((j : ℕ) × (j < i) × (stand-of (now (chosen .entry)) j ≡ stand))) ⌝ }
+    ensures none { λ r. ⌜ (r ≡ false → (j : ℕ) → j < i → stand-of (now (chosen .entry)) j ≡ stand → ⊥) ⌝ }
+{
+    for j in 0..i {
+        if chosen[j] == stand {
+            return true;
+        }
+    }
+    false
+}
+
+// Every stand chosen is one that the group brought.
+fn all_brought(chosen: &[u16], n: usize) -> bool
+    requires { ⌜ n ≤ length (now chosen) ⌝ }
+    requires below { ⌜ ((j : ℕ) → j < n → in-group (now chosen) j ≡ true → stand-of (now chosen) j < n) ⌝ }
+    ensures found { λ r. ⌜ (r ≡ true → Brought n (now (chosen .entry))) ⌝ }
+    ensures none { λ r. ⌜ (r ≡ false → Unbrought n (now (chosen .entry))) ⌝ }
+{
+    for j in 0..n {
+        let stand = chosen[j];
+        if stand != OUT && chosen[stand as usize] == OUT {
+            return false;
+        }
+    }
+    true
+}
+
+// Somebody in the group has another stand than the one got.
+fn some_differs(chosen: &[u16], results: &[u16], n: usize) -> bool
+    requires { ⌜ n ≤ length (now chosen) ⌝ ∗ ⌜ n ≤ length (now results) ⌝ }
+    ensures found { λ r. ⌜ (r ≡ true → Differs n (now (results .entry)) (now (chosen .entry))) ⌝ }
+    ensures none { λ r. ⌜ (r ≡ false → Same n (now (results .entry)) (now (chosen .entry))) ⌝ }
+{
+    for j in 0..n {
+        if chosen[j] != OUT && chosen[j] != results[j] {
+            return true;
+        }
+    }
+    false
+}
+
+// Goes on from the choices for the first i traders: each of the others stays out or gets a stand, in all ways that can serve.
+fn complete(
+    table: &[bool],
+    results: &[u16],
+    n: usize,
+    i: usize,
+    chosen: [u16; 8],
+) -> Option<[u16; 8]>
+    requires few { ⌜ i ≤ n ⌝ ∗ ⌜ n ≤ 8 ⌝ ∗ ⌜ n ≤ length (now results) ⌝ ∗ ⌜ length (now table) ≡ 64 ⌝ }
+    requires sound { ⌜ Sound n (now table) chosen i ⌝ }
+    ensures { λ r. ⌜ BySome r (Hopeless n (now (table .entry)) (stand-of (now (results .entry))) chosen i) (λ share. Sharing n (now (table .entry)) (stand-of (now (results .entry))) (in-group share) (stand-of share)) ⌝ }
+{
+    if i == n {
+        if all_brought(&chosen, n) && some_differs(&chosen, results, n) {
+            return Some(chosen);
+        }
+        return None;
+    }
+    let mut stays_out = chosen;
+    stays_out[i] = OUT;
+    if let Some(share) = complete(table, results, n, i + 1, stays_out) {
+        return Some(share);
+    }
+    for stand in 0..n {
+        if table[8 * i + stand] && !taken(&chosen, i, stand as u16) {
+            let mut gets = chosen;
+            gets[i] = stand as u16;
+            if let Some(share) = complete(table, results, n, i + 1, gets) {
+                return Some(share);
+            }
+        }
+    }
+    None
+}
+
+// Searches for a group that could do better among themselves than the results give.
+pub fn bettering(bytes: &[u8], results: &[u16]) -> Result<Answer, Unsearched>
+    ensures { λ r. ⌜ Outcome (now (bytes .entry)) (now (results .entry)) r ⌝ }
+{
+    let n = match read(bytes) {
+        Ok(n) => n,
+        Err(refusal) => return Err(Unsearched::Refused { refusal }),
+    };
+    if n as usize > MOST {
+        return Err(Unsearched::TooMany);
+    }
+    if results.len() < n as usize {
+        let refusal = Refusal::TooShort {
+            lent: Lent::Results,
+        };
+        return Err(Unsearched::Refused { refusal });
+    }
+    let table = table_of(bytes, results, n);
+    match complete(&table, results, n as usize, 0, [OUT; 8]) {
+        Some(share) => Ok(Answer::Bettered { share }),
+        None => Ok(Answer::Unbettered),
+    }
+}
+
+#[cfg(test)]
+mod tests {
+    use super::*;
+    use std::test::*;
+
+    // 0 lists 1 and 2, 1 lists 0 and 3, 2 lists 0 and 1, 3 lists 1 and 0
+    const TWO_SWAPS: [u8; 22] = [
+        4,
+        0,
+        2,
+        1,
+        0,
+        2,
+        0,
+        2,
+        0,
+        0,
+        3,
+        0,
+        2,
+        0,
+        0,
+        1,
+        0,
+        2,
+        1,
+        0,
+        0,
+        0,
+    ];
+
+    // 0 lists 1, 1 lists 2, 2 lists 0
+    const ONE_RING: [u8; 11] = [3, 0, 1, 1, 0, 1, 2, 0, 1, 0, 0];
+
+    // 0 lists 1, 1 lists 0, 2 lists 0 and 3, 3 lists 2
+    const OUT_FIRST: [u8; 16] = [4, 0, 1, 1, 0, 1, 0, 0, 2, 0, 0, 3, 0, 1, 2, 0];
+
+    // Everybody has a stand listed, and the two who could swap their dearest have less dear ones.
+    #[test]
+    fn the_most_contented_sharing_is_bettered() -> Result<(), Fail> {
+        let share = [1, 0, OUT, OUT, OUT, OUT, OUT, OUT];
+        check_eq(
+            bettering(&TWO_SWAPS, &[2, 3, 0, 1]),
+            Ok(Answer::Bettered { share }),
+        )
+    }
+
+    // With only rings of two everybody would keep the own stand.
+    #[test]
+    fn rings_of_two_are_bettered() -> Result<(), Fail> {
+        let share = [1, 2, 0, OUT, OUT, OUT, OUT, OUT];
+        check_eq(
+            bettering(&ONE_RING, &[0, 1, 2]),
+            Ok(Answer::Bettered { share }),
+        )
+    }
+
+    // Were 2 to go on pointing to 0's stand when 0 is out, 2 and 3 would never swap.
+    #[test]
+    fn pointing_to_one_who_is_out_is_bettered() -> Result<(), Fail> {
+        let share = [OUT, OUT, 3, 2, OUT, OUT, OUT, OUT];
+        check_eq(
+            bettering(&OUT_FIRST, &[1, 0, 2, 3]),
+            Ok(Answer::Bettered { share }),
+        )
+    }
+
+    #[test]
+    fn the_exchange_is_not_bettered() -> Result<(), Fail> {
+        check_eq(bettering(&TWO_SWAPS, &[1, 0, 2, 3]), Ok(Answer::Unbettered))?;
+        check_eq(bettering(&ONE_RING, &[1, 2, 0]), Ok(Answer::Unbettered))?;
+        check_eq(bettering(&OUT_FIRST, &[1, 0, 3, 2]), Ok(Answer::Unbettered))
+    }
+
+    #[test]
+    fn no_search_is_made() -> Result<(), Fail> {
+        let nine = [9, 0, 0, 0, 0, 0, 0, 0, 0, 0, 0];
+        check_eq(bettering(&nine, &[]), Err(Unsearched::TooMany))?;
+        let refusal = Refusal::TooShort {
+            lent: Lent::Results,
+        };
+        check_eq(
+            bettering(&ONE_RING, &[1, 2]),
+            Err(Unsearched::Refused { refusal }),
+        )?;
+        let refusal = Refusal::WrongLength { at: 0 };
+        check_eq(
+            bettering(&[], &[1, 2]),
+            Err(Unsearched::Refused { refusal }),
+        )
+    }
+}

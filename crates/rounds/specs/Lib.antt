@@ -1,0 +1,3 @@
+pub mod Run
+pub mod Turn
+pub mod Report

@@ -1,0 +1,11 @@
+use Prim.Native.Nat.{_+_, _*_}
+use native.Mathlib.Omega.{arith}
+use mathlib.Core.Path.{_≡_, _∙_}
+use lib.ListN.{getD}
+use Rattle.sheet.proofs.Entries.{entries-more}
+use Rattle.sheet.proofs.exchanging.write_sheet.Needs as need
+
+pub loop-i-again : need.loop-i-again
+loop-i-again c =
+    c .write-entry .ensures
+    ∙ entries-more (c .args .results .now) (c .args .work .now) (c .args .n) (c .loop-i .i) (c .args .sheet .now) _ (c .loop-i .inv) (omega arith)
