@@ -1,19 +1,17 @@
 -- Papers that pass and agree with each other make a valid sheet.
 use mathlib.Core.Path.{_≡_, refl, sym, ap, _∙_}
-use mathlib.Core.Bool.{Bool, true, false, cond, _&&_, _||_, not}
-use mathlib.Core.List.{List, [], _∷_, _++_}
+use mathlib.Core.Bool.{Bool, true, false, cond, _&&_, not}
+use mathlib.Core.List.{List, [], _∷_}
 use mathlib.Core.Logic.{_⊎_, inl, inr}
 use Prim.Native.Nat.{ℕ, zero, suc, _+_, _*_, _-_, _<_, _≤_}
 use native.Mathlib.Omega.{arith}
 use lib.Dec.{eqb, ltb}
 use lib.ListN.{length, getD}
 use Rattle.std.proofs.shelf.Lists.{append-nil, getD-default}
-use Rattle.std.proofs.shelf.Tests.{and-parts, both-ways, cases-bool, cases-eq, cases-lt, eq-eqb, eqb-true, eqb-false, ltb-true, ne-eqb, or-cases, not-true}
-use Rattle.std.specs.declared.option.Option.{Option}
-use Rattle.std.specs.declared.option.Option.the-variants.{Some, None}
-use Rattle.lists.specs.declared.refusals.Refusal.{Refusal}
+use Rattle.std.proofs.shelf.Tests.{and-parts, both-ways, cases-bool, cases-eq, eq-eqb, eqb-true, ltb-true, ne-eqb, or-cases, not-true}
+use Rattle.std.specs.declared.option.Option.the-variants.{None}
 use Rattle.lists.specs.Certificate.{Valid-sheet, steps}
-use Rattle.lists.specs.Format.{Encodable, encode-stands, list-bytes, member, numbers, or-else}
+use Rattle.lists.specs.Format.{Encodable, list-bytes, member, numbers, or-else}
 use Rattle.lists.specs.Promise.{Distinct, Proper, rank, rank-in}
 use Rattle.lists.specs.Statements.{Valid-sheet-is-the-result}
 use Rattle.lists.specs.Trade.{Lists}
@@ -21,7 +19,7 @@ use Rattle.lists.proofs.Accepted.{no-fault-both}
 use Rattle.lists.proofs.Encoding.{written-list}
 use Rattle.lists.proofs.theory.Finite.{Returns, returns-apart}
 use Rattle.lists.proofs.theory.Results.{valid-sheet-is-the-result}
-use Rattle.papers.specs.Faults.{count-fault, dearer-fault, field-fault, fields-fault, gone-fault, head-fault, holder-fault, in-place, length-fault, member-fault, own-fault, own-list-fault, owner, paper-check-fault, ring-fault, round-fault, stand-fault, tail-fault}
+use Rattle.papers.specs.Faults.{count-fault, dearer-fault, field-fault, fields-fault, gone-fault, head-fault, holder-fault, in-place, length-fault, own-fault, own-list-fault, owner, ring-fault, round-fault, stand-fault, tail-fault}
 use Rattle.papers.specs.Paper.{count-on, dearer-than, gone-on, holder-on, own-on, ring-length, ring-on, round-on, stand-on}
 use Rattle.papers.specs.Trust.{Agreeing, Agreeing-papers-are-right, Agreeing-papers-make-a-sheet, next-on, own-list}
 

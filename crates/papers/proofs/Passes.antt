@@ -1,31 +1,31 @@
 -- Every paper that is written from an accepted sheet passes.
 use mathlib.Core.Path.{_≡_, refl, sym, ap, _∙_}
 use mathlib.Core.Bool.{Bool, true, false, cond, _&&_, _||_, not}
-use mathlib.Core.List.{List, [], _∷_, _++_}
-use mathlib.Core.Logic.{_⊎_, inl, inr}
+use mathlib.Core.List.{List, [], _∷_}
+use mathlib.Core.Logic.{inl, inr}
 use Prim.Native.Nat.{ℕ, zero, suc, _+_, _*_, _<_, _≤_}
 use native.Mathlib.Omega.{arith}
 use lib.Dec.{eqb, ltb}
-use lib.ListN.{length, getD}
-use Rattle.std.proofs.shelf.Lists.{append-nil}
+use lib.ListN.{length, getD, take, drop}
+use Rattle.std.proofs.shelf.Lists.{append-nil, drop-more}
 use Rattle.std.proofs.shelf.Tests.{and-from, and-parts, cases-bool, cases-eq, eq-eqb, eqb-true, le-ltb, lt-ltb, ltb-true, ne-eqb}
 use Rattle.std.specs.declared.option.Option.{Option}
-use Rattle.std.specs.declared.option.Option.the-variants.{Some, None}
+use Rattle.std.specs.declared.option.Option.the-variants.{None}
 use Rattle.lists.specs.declared.refusals.Refusal.{Refusal}
 use Rattle.lists.specs.Certificate.{steps}
 use Rattle.lists.specs.Format as format
-use Rattle.lists.specs.Format.{Encodable, encode-stands, list-bytes, member, numbers, or-else}
-use Rattle.lists.specs.Trade.{Lists}
-use Rattle.lists.proofs.Accepted.{all-may, good-list, list-good, no-fault-both}
-use Rattle.lists.proofs.Encoding.{length-of-stands, proper-may, written-good, written-list, written-count}
+use Rattle.lists.specs.Format.{encode-stands, list-bytes, lists-of, member, number-at, numbers, or-else, start}
+use Rattle.lists.proofs.Accepted.{all-may, good-numbers, list-good, list-good-at, no-fault-both}
+use Rattle.lists.proofs.Encoding.{length-of-stands, proper-may, stands-written, written-good, written-list}
 use Rattle.lists.proofs.Faults.{may-list}
+use Rattle.lists.proofs.Positions.{count-of-numbers, list-is, numbers-from}
 use Rattle.sheet.specs.Sheet as sheets
-use Rattle.sheet.specs.Sheet.{round-in, sheet-fault, sheet-of, stand-in}
-use Rattle.sheet.proofs.Checked.{Fine, accepted-valid, all-fine, no-fault-test}
+use Rattle.sheet.specs.Sheet.{round-in, sheet-of, stand-in}
+use Rattle.sheet.proofs.Checked.{accepted-valid, all-fine, no-fault-test}
 use Rattle.sheet.proofs.Written.{written-accepted}
-use Rattle.papers.specs.Faults.{count-fault, dearer-fault, end-fault, field-fault, fields-fault, gone-fault, head-fault, holder-fault, in-place, length-fault, member-fault, own-fault, own-list-fault, owner, paper-check-fault, ring-fault, round-fault, stand-fault, tail-fault}
-use Rattle.papers.specs.Paper.{count-on, count-place, dearer-than, gone-on, holder-on, own-on, paper-for, paper-of, ring-length, ring-of, ring-on, round-on, stand-on}
-use Rattle.papers.specs.Trust.{Papers-of-the-exchange-pass, Papers-pass, own-list}
+use Rattle.papers.specs.Faults.{dearer-fault, field-fault, fields-fault, gone-fault, head-fault, holder-fault, in-place, length-fault, member-fault, own-fault, own-list-fault, owner, ring-fault, round-fault, stand-fault, tail-fault}
+use Rattle.papers.specs.Paper.{count-on, count-place, dearer-than, gone-on, holder-on, own-on, paper-for, ring-length, ring-of, ring-on, round-on, stand-on}
+use Rattle.papers.specs.Trust.{Own-lists-stand-there, Papers-of-the-exchange-pass, Papers-pass, own-list}
 use Rattle.papers.proofs.Fields.{count-written, gone-written, holder-written, own-written, ring-length-written, ring-written, round-written, stand-written}
 use Rattle.papers.proofs.Orbits.{Ring, ring-around}
 use Rattle.papers.proofs.Writes.{length-paper}
@@ -243,3 +243,19 @@ papers-pass ls sheet i enc ok h =
 pub papers-of-the-exchange-pass : Papers-of-the-exchange-pass
 unfolding Papers-of-the-exchange-pass Papers-pass
 papers-of-the-exchange-pass ls i enc h = papers-pass ls (sheet-of ls) i enc (written-accepted ls (enc .proper)) h
+
+pub own-lists-stand-there : Own-lists-stand-there
+unfolding Own-lists-stand-there
+own-lists-stand-there bs i bytes accepted h =
+    let p = start bs i in
+    let c = getD bs (start bs i) 0 in
+    let good = list-good-at bs accepted i h in
+    let within = good .within in
+    let l : getD (lists-of bs) i [] ≡ numbers-from bs (getD bs (start bs i) 0) (start bs i + 1) =
+    list-is bs i h ∙ good-numbers bs (number-at bs 0) i (start bs i) good in
+    let count : length (getD (lists-of bs) i []) ≡ getD bs (start bs i) 0 = ap length l ∙ count-of-numbers bs (getD bs (start bs i) 0) (start bs i + 1) in
+    let stands : encode-stands (getD (lists-of bs) i []) ≡ take (2 * getD bs (start bs i) 0) (drop (start bs i + 1) bs) =
+    ap encode-stands l ∙ stands-written bs bytes (getD bs (start bs i) 0) (start bs i + 1) within in
+    let first = drop-more bs (start bs i) 0 (omega arith) in
+    let one : 1 + 2 * getD bs (start bs i) 0 ≡ suc (2 * getD bs (start bs i) 0) = omega arith in
+    rw (one, first) (sym (cc (count, stands)))

@@ -1,13 +1,13 @@
 -- The stands of a list by their places, and those that are dearer than one of them.
 use mathlib.Core.Path.{_≡_, refl, sym, ap, _∙_}
-use mathlib.Core.Bool.{Bool, true, false, cond, _||_}
+use mathlib.Core.Bool.{true, false}
 use mathlib.Core.List.{List, [], _∷_}
-use mathlib.Core.Logic.{_⊎_, inl, inr}
+use mathlib.Core.Logic.{inl, inr}
 use Prim.Native.Nat.{ℕ, zero, suc, _+_, _*_, _/_, _<_, _≤_}
 use native.Mathlib.Omega.{arith}
 use lib.Dec.{eqb, ltb}
 use lib.ListN.{length, getD, take, drop, length-drop}
-use Rattle.std.proofs.shelf.Tests.{cases-bool, cases-eq, eq-eqb, ne-eqb, cases-lt, lt-ltb, le-ltb}
+use Rattle.std.proofs.shelf.Tests.{cases-bool, eq-eqb, ne-eqb, cases-lt, lt-ltb, le-ltb}
 use Rattle.std.proofs.shelf.Lists.{drop-more}
 use Rattle.lists.specs.Format.{member, number-at, numbers}
 use Rattle.papers.specs.Paper.{dearer-than}

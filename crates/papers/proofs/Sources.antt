@@ -1,18 +1,17 @@
 -- What holds of the lists and the sheet that a paper is written from.
-use mathlib.Core.Path.{_≡_, refl, sym, ap, _∙_}
-use mathlib.Core.Bool.{true, false}
+use mathlib.Core.Path.{_≡_, refl, ap, _∙_}
 use mathlib.Core.List.{List, []}
 use Prim.Native.Nat.{ℕ, _+_, _*_, _<_, _≤_}
 use native.Mathlib.Omega.{arith}
 use lib.ListN.{length, getD}
 use Rattle.std.proofs.shelf.Tests.{lt-ltb, le-ltb}
-use Rattle.std.specs.declared.option.Option.the-variants.{Some, None}
+use Rattle.std.specs.declared.option.Option.the-variants.{None}
 use Rattle.std.specs.declared.result.Result.{Result}
 use Rattle.std.specs.declared.result.Result.the-variants.{Ok, Err}
 use Rattle.lists.specs.declared.refusals.Lent.the-variants.{Results}
 use Rattle.lists.specs.declared.refusals.Refusal.{Refusal}
 use Rattle.lists.specs.declared.refusals.Refusal.the-variants.{TooShort}
-use Rattle.lists.specs.Format.{fault, list-bytes, lists-of, next-start, number-at, numbers, or-else, start, unless}
+use Rattle.lists.specs.Format.{fault, list-bytes, lists-of, next-start, number-at, numbers, start, unless}
 use Rattle.lists.proofs.Accepted.{no-fault-both}
 use Rattle.lists.proofs.Positions.{count-of-lists, list-is}
 use Rattle.sheet.specs.Sheet.{Valid, check-fault, sheet-fault, stand-in}

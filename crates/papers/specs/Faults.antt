@@ -2,7 +2,7 @@
 -- 2 stand got, 3 length of the ring, then the traders of the ring, then the count of the dearer stands, then the holder and
 -- the round of each. The first field in fault is told; what goes on after the last field counts as one more.
 use mathlib.Core.Path.{_≡_}
-use mathlib.Core.Bool.{Bool, true, false, cond, _&&_, _||_, not}
+use mathlib.Core.Bool.{Bool, true, cond, _&&_, _||_, not}
 use mathlib.Core.List.{List, [], _∷_}
 use Prim.Native.Nat.{ℕ, zero, suc, _+_, _*_}
 use lib.Dec.{eqb, ltb}

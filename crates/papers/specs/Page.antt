@@ -1,6 +1,6 @@
 -- The readable page of a paper, as bytes. No line of a page whose traders have numbers below 4,000 is longer than 72 columns.
 use mathlib.Core.Bool.{Bool, cond}
-use mathlib.Core.List.{List, [], _∷_, _++_}
+use mathlib.Core.List.{List, [], _++_}
 use Prim.Native.Nat.{ℕ, zero, suc, _+_, _-_}
 use lib.Chars.{codes}
 use lib.Dec.{eqb, ltb}

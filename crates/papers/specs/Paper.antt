@@ -1,6 +1,6 @@
 -- A paper shows one trader what it got, the ring by which it got it, and that nobody passed it over. All numbers have two
 -- bytes, low byte first, but for the count of the dearer stands, which has one.
-use mathlib.Core.Bool.{Bool, true, false, cond}
+use mathlib.Core.Bool.{cond}
 use mathlib.Core.List.{List, [], _∷_, _++_}
 use Prim.Native.Nat.{ℕ, zero, suc, _+_, _*_}
 use lib.Dec.{eqb, ltb}

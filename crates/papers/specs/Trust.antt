@@ -3,12 +3,12 @@
 use mathlib.Core.Path.{_≡_}
 use mathlib.Core.Bool.{cond}
 use mathlib.Core.List.{List, [], _∷_}
-use Prim.Native.Nat.{ℕ, suc, _<_}
+use Prim.Native.Nat.{ℕ, suc, _+_, _*_, _<_}
 use lib.Dec.{eqb}
-use lib.ListN.{length, getD}
+use lib.ListN.{length, getD, take, drop}
 use Rattle.std.specs.declared.option.Option.the-variants.{None}
 use Rattle.lists.specs.Certificate.{Valid-sheet}
-use Rattle.lists.specs.Format.{Encodable, encode-stands}
+use Rattle.lists.specs.Format.{Encodable, encode-stands, fault, lists-of, number-at, start}
 use Rattle.lists.specs.Trade.{Lists, result}
 use Rattle.sheet.specs.Sheet.{sheet-fault, sheet-of}
 use Rattle.papers.specs.Faults.{paper-check-fault}
@@ -17,6 +17,12 @@ use Rattle.papers.specs.Paper.{count-on, gone-on, holder-on, own-on, paper-of,
 -- the bytes of trader i's list, as they stand in the lists of the year: its count and its stands
 abbrev pub own-list : Lists → ℕ → List ℕ
 own-list ls i = length (getD ls i []) ∷ encode-stands (getD ls i [])
+
+-- In the accepted bytes of a year they stand where trader i's list begins.
+unfoldable pub Own-lists-stand-there : Type 0
+Own-lists-stand-there =
+    (bs : List ℕ) (i : ℕ) → ((k : ℕ) → k < length bs → getD bs k 0 < 256) → fault bs ≡ None → i < number-at bs 0 →
+    take (1 + 2 * getD bs (start bs i) 0) (drop (start bs i) bs) ≡ own-list (lists-of bs) i
 
 -- Every paper that is written from an accepted sheet passes with that trader's list.
 unfoldable pub Papers-pass : Type 0

@@ -1,15 +1,15 @@
 // Checking a paper, by itself and the trader's list.
-ghost use Prim.Native.Nat.{ℕ, suc, _+_, _*_, _-_, _≤_, _<_};
+ghost use Prim.Native.Nat.{_+_, _*_, _-_, _≤_, _<_};
 ghost use lib.Dec.{eqb, ltb};
 ghost use lib.ListN.{length, getD};
-ghost use mathlib.Core.Bool.{Bool, true, cond};
-ghost use mathlib.Core.List.{List, []};
+ghost use mathlib.Core.Bool.{cond};
+ghost use mathlib.Core.List.{[]};
 ghost use mathlib.Core.Path.{_≡_};
 ghost use Rattle.std.specs.declared.option.Option.the-variants.{Some, None};
 ghost use Rattle.std.specs.Results.{Cases as ByOk};
-ghost use Rattle.lists.specs.Format.{length-fault as count-of-list-fault, list-bytes, member, next-start, number-at, numbers, stand-fault as listed-fault, stands-fault, unless};
-ghost use Rattle.papers.specs.Paper.{count-on, count-place, dearer-than, gone-on, holder-on, own-on, ring-length, ring-on, round-on, stand-on};
-ghost use Rattle.papers.specs.Faults.{count-fault, dearer-fault, end-fault, fields-fault, gone-fault, head-fault, holder-fault, length-fault, member-fault, own-fault, owner, own-list-fault, paper-check-fault, Read, ring-fault, round-fault, stand-fault, tail-fault};
+ghost use Rattle.lists.specs.Format.{length-fault as count-of-list-fault, list-bytes, member, number-at, numbers, stand-fault as listed-fault, stands-fault, unless};
+ghost use Rattle.papers.specs.Paper.{dearer-than, gone-on, own-on, ring-length, ring-on, round-on, stand-on};
+ghost use Rattle.papers.specs.Faults.{count-fault, dearer-fault, end-fault, fields-fault, gone-fault, head-fault, holder-fault, length-fault, member-fault, own-fault, own-list-fault, paper-check-fault, Read, ring-fault, round-fault, stand-fault, tail-fault};
 use crate::bytes::dearer_count;
 use crate::bytes::number_at;
 use lists::refusals::Refusal;

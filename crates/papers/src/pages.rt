@@ -1,14 +1,13 @@
 // The readable page of a trader's paper.
 ghost use Prim.Native.Nat.{_+_, _*_, _-_, _<_, _≤_};
-ghost use lib.ListN.{length};
 ghost use mathlib.Core.List.{_++_};
 ghost use mathlib.Core.Path.{_≡_};
 ghost use Rattle.std.specs.Of.String.{string-bytes};
 ghost use Rattle.std.specs.Vec.{made};
 ghost use Rattle.std.specs.Written.{decimal};
 ghost use Rattle.lists.specs.Format.{number-at};
-ghost use Rattle.papers.specs.Page.{fits, gone-lines, gone-text, got-text, head-text, page-of, ring-text, step-column, step-text, steps-text, width};
-ghost use Rattle.papers.specs.Paper.{count-on, own-on, ring-length, ring-on};
+ghost use Rattle.papers.specs.Page.{fits, gone-lines, gone-text, got-text, head-text, page-of, ring-text, step-column, step-text, width};
+ghost use Rattle.papers.specs.Paper.{count-on, own-on, ring-length};
 use crate::splitting::byte_at;
 use std::alloc::AllocError;
 

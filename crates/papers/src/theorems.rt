@@ -1,5 +1,12 @@
 // What papers are good for: each function's contract names a statement.
-ghost use Rattle.papers.specs.Trust.{Agreeing-papers-are-right, Agreeing-papers-make-a-sheet, Papers-of-the-exchange-pass, Papers-pass};
+ghost use Rattle.papers.specs.Trust.{Agreeing-papers-are-right, Agreeing-papers-make-a-sheet, Own-lists-stand-there, Papers-of-the-exchange-pass, Papers-pass};
+
+// In accepted bytes, a trader's list with its count is the part that begins where the list begins.
+pub fn own_lists_stand_there() -> u8
+    ensures { λ _. ⌜ Own-lists-stand-there ⌝ }
+{
+    0
+}
 
 // Every paper that is written from an accepted sheet passes with that trader's list.
 pub fn papers_pass() -> u8

@@ -1,12 +1,11 @@
 // Writing a trader's paper from the lists of a year and a sheet.
 ghost use Prim.Native.Nat.{ℕ, _+_, _*_, _≤_, _<_};
-ghost use lib.ListN.{length, getD};
+ghost use lib.ListN.{length};
 ghost use mathlib.Core.List.{_++_};
 ghost use mathlib.Core.Path.{_≡_};
-ghost use Rattle.std.specs.declared.option.Option.the-variants.{None};
 ghost use Rattle.lists.specs.Format.{bytes-of, encode-stands, list-bytes, lists-of, next-start, number-at, numbers, start, unless};
-ghost use Rattle.sheet.specs.Sheet.{check-fault, round-in, stand-in};
-ghost use Rattle.papers.specs.Paper.{dearer-bytes, dearer-than, gone-bytes, left-by, paper-fault, paper-for, paper-of, ring-of, room-fault, trader-fault, written};
+ghost use Rattle.sheet.specs.Sheet.{round-in, stand-in};
+ghost use Rattle.papers.specs.Paper.{dearer-than, gone-bytes, left-by, paper-fault, paper-for, paper-of, ring-of, room-fault, trader-fault, written};
 use crate::bytes::dearer_count;
 use crate::bytes::number_at;
 use crate::bytes::put;

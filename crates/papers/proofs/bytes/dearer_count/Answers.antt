@@ -1,5 +1,4 @@
-use Prim.Native.Nat.{_+_}
-use mathlib.Core.Path.{refl, sym}
+use mathlib.Core.Path.{sym}
 use native.Mathlib.Omega.{arith}
 use Rattle.papers.proofs.Places.{dearer-found, dearer-next, dearer-end}
 use Rattle.papers.proofs.bytes.dearer_count.Needs as need

@@ -1,9 +1,8 @@
 use Prim.Native.Nat.{_+_, _-_, _<_}
-use mathlib.Core.Bool.{Bool, true, false}
 use mathlib.Core.List.{[], _∷_}
-use mathlib.Core.Path.{_≡_, refl, sym}
+use mathlib.Core.Path.{_≡_, refl}
 use native.Mathlib.Omega.{arith}
-use lib.ListN.{length, set, length-set}
+use lib.ListN.{length, length-set}
 use Rattle.std.proofs.shelf.Results.{err-from-errBy}
 use Rattle.lists.proofs.Faults.{refused-fault, no-fault, marks-more}
 use Rattle.papers.specs.Paper.{ring-on}

@@ -1,4 +1,3 @@
-use mathlib.Core.Path.{sym, _∙_}
 use Rattle.lists.specs.Format.{numbers}
 use Rattle.papers.proofs.Places.{member-dearer, numbers-count}
 use Rattle.papers.proofs.checking.listed.Needs as need

@@ -1,7 +1,6 @@
-use Prim.Native.Nat.{_+_, _-_, _<_}
+use Prim.Native.Nat.{_+_, _-_}
 use mathlib.Core.Path.{_≡_, sym}
 use native.Mathlib.Omega.{arith}
-use lib.ListN.{length}
 use Rattle.papers.proofs.Around.{ring-all, ring-back, ring-goes-on}
 use Rattle.papers.proofs.writing.ring_length.Needs as need
 

@@ -1,4 +1,4 @@
-use mathlib.Core.Path.{_≡_, refl, sym, ap, _∙_}
+use mathlib.Core.Path.{refl, _∙_}
 use lib.ListN.{length}
 use Rattle.lists.specs.Format.{numbers}
 use Rattle.papers.specs.Paper.{paper-for}

@@ -1,10 +1,9 @@
-use Prim.Native.Nat.{_+_, _*_, _<_, suc}
-use mathlib.Core.Path.{_≡_, refl, sym, ap, _∙_}
+use Prim.Native.Nat.{_+_, _*_, _<_}
+use mathlib.Core.Path.{refl, sym, ap, _∙_}
 use native.Mathlib.Omega.{arith}
 use native.Mathlib.Numerals.{add-one}
-use lib.ListN.{length, take}
+use lib.ListN.{length}
 use Rattle.std.proofs.shelf.Lists.{take-all}
-use Rattle.lists.specs.Certificate.{steps}
 use Rattle.lists.specs.Format.{bytes-of, encode-stands}
 use Rattle.sheet.specs.Sheet.{stand-in}
 use Rattle.papers.specs.Paper.{ring-of, written}

@@ -1,6 +1,6 @@
 use Prim.Native.Nat.{_<_}
 use mathlib.Core.Path.{_≡_}
-use lib.ListN.{length, take}
+use lib.ListN.{take}
 use Rattle.lists.specs.Certificate.{steps}
 use Rattle.lists.specs.Format.{encode-stands}
 use Rattle.sheet.specs.Sheet.{stand-in}
