@@ -4,13 +4,14 @@ use console::EndedFromAlloc;
 use console::EndedFromIo;
 use std::env;
 
-pub const USAGE: &str = "usage: exchange [--sheet FILE] [LISTS]
+pub const USAGE: &str = "usage: exchange [--sheet FILE] [--paper-bytes FILE] [LISTS]
 
 Reads the lists of a year from the file LISTS, or from standard input where
 none is named or it is -, does the exchange, and prints what everybody gets.
 
-  --sheet FILE  also write the sheet, which anybody can check
-  --help        print this text
+  --sheet FILE        also write the sheet, which anybody can check
+  --paper-bytes FILE  also write the papers of all traders, one after another
+  --help              print this text
 
 Lists that are refused print the refusal's number and place; the status is
 then 1.
@@ -20,6 +21,7 @@ then 1.
 pub struct Options {
     pub lists: String,
     pub sheet: Option<String>,
+    pub paper_bytes: Option<String>,
 }
 
 #[derive(Drop)]
@@ -34,11 +36,13 @@ pub enum Command {
 enum Next {
     Word,
     Sheet,
+    PaperBytes,
 }
 
 pub fn read_options(rt: &LibcRuntime) -> Result<Command, Ended> {
     let mut lists = None;
     let mut sheet = None;
+    let mut paper_bytes = None;
     let mut next = Next::Word;
     let mut words = env::args(rt)?;
     let _program = words.next();
@@ -48,12 +52,18 @@ pub fn read_options(rt: &LibcRuntime) -> Result<Command, Ended> {
                 sheet = Some(word);
                 next = Next::Word;
             }
+            Next::PaperBytes => {
+                paper_bytes = Some(word);
+                next = Next::Word;
+            }
             Next::Word => {
                 if word.as_str() == "--help" {
                     return Ok(Command::Help);
                 }
                 if word.as_str() == "--sheet" {
                     next = Next::Sheet;
+                } else if word.as_str() == "--paper-bytes" {
+                    next = Next::PaperBytes;
                 } else if lists.is_some() {
                     return Ok(Command::Wrong);
                 } else {
@@ -62,12 +72,16 @@ pub fn read_options(rt: &LibcRuntime) -> Result<Command, Ended> {
             }
         }
     }
-    if let Next::Sheet = next {
+    let Next::Word = next else {
         return Ok(Command::Wrong);
-    }
+    };
     let lists = match lists {
         Some(name) => name,
         None => String::from_str(rt.alloc(), "-")?,
     };
-    Ok(Command::Run(Options { lists, sheet }))
+    Ok(Command::Run(Options {
+        lists,
+        sheet,
+        paper_bytes,
+    }))
 }
