@@ -11,10 +11,10 @@ pub returns-in-Some : need.returns-in-Some
 returns-in-Some c =
     let count : length (lists-of (c .args .bytes .now)) ≡ c .args .n = count-of-lists (c .args .bytes .now) ∙ sym (c .pre .accepted .1) in
     betters-by-lists (lists-of (c .args .bytes .now)) (c .args .results .now) (c .args .n) _ count (omega arith) (c .table-of-table .ensures) _ _
-        (c .in-Some .ensures tt)
+    (c .in-Some .ensures tt)
 
 pub returns-in-None : need.returns-in-None
 returns-in-None c =
     let count : length (lists-of (c .args .bytes .now)) ≡ c .args .n = count-of-lists (c .args .bytes .now) ∙ sym (c .pre .accepted .1) in
     λ group share b. c .in-None .ensures tt group share (λ j h. absurd (omega arith))
-        (betters-by-table (lists-of (c .args .bytes .now)) (c .args .results .now) (c .args .n) _ count (omega arith) (c .table-of-table .ensures) group share b)
+    (betters-by-table (lists-of (c .args .bytes .now)) (c .args .results .now) (c .args .n) _ count (omega arith) (c .table-of-table .ensures) group share b)
