@@ -8,3 +8,4 @@ pub mod Orbits
 pub mod Fields
 pub mod Passes
 pub mod Agrees
+pub mod PageText

@@ -18,7 +18,7 @@ use Rattle.lists.proofs.Positions.{count-of-lists, list-is}
 use Rattle.sheet.specs.Sheet.{Valid, check-fault, sheet-fault, stand-in}
 use Rattle.sheet.proofs.Checked.{accepted-valid}
 use Rattle.sheet.proofs.Traders.{within, part-short, part-exists}
-use Rattle.papers.specs.Paper.{paper-fault, paper-for, paper-of, room-fault}
+use Rattle.papers.specs.Paper.{paper-fault, paper-for, paper-of, room-fault, trader-fault}
 
 -- the room for a paper of that length
 pub no-room : (room size : ℕ) (paper : List ℕ) → length paper ≡ size → room < size →
@@ -28,6 +28,10 @@ no-room room size paper e h = rw (lt-ltb room (length paper) (omega arith))
 pub enough-room : (room size : ℕ) (paper : List ℕ) → length paper ≡ size → size ≤ room →
     _≡_ {A = Result ℕ Refusal} (Ok size) (unless (room-fault room paper) (length paper))
 enough-room room size paper e h = rw (le-ltb room (length paper) (omega arith), e)
+
+-- a trader who exists
+pub trader-known : (n i : ℕ) → trader-fault n i ≡ None → i < n
+trader-known n i e = grind arith
 
 -- an accepted sheet
 module _ (bs sheet : List ℕ) (ok : check-fault bs sheet ≡ None) where

@@ -1,3 +1,4 @@
 pub mod Paper
 pub mod Faults
 pub mod Trust
+pub mod Page

@@ -322,7 +322,7 @@ mod tests {
         }
     }
 
-    // the paper with another byte at a place
+    // the refusal of a paper with another byte at a place
     fn changed(mut paper: [u8; 19], at: usize, byte: u8) -> (u8, usize) {
         if at < 19 {
             paper[at] = byte;
@@ -336,44 +336,52 @@ mod tests {
         check_eq(outcome(&LIST, &RING), (0, 2))
     }
 
-    #[test]
-    fn lists_in_fault() -> Result<(), Fail> {
-        check_eq(outcome(&[], &KEPT), (1, 0))?;
-        check_eq(outcome(&[41], &[]), (3, 0))?;
-        check_eq(outcome(&[2, 1, 0, 0], &KEPT), (1, 4))?;
-        check_eq(outcome(&[2, 1, 0, 0, 0, 7], &KEPT), (1, 5))?;
-        check_eq(outcome(&[2, 1, 0, 2, 0], &KEPT), (4, 3))?;
-        check_eq(outcome(&[2, 1, 0, 1, 0], &KEPT), (4, 3))
-    }
-
+    // another byte at a place, and the field that is then in fault
     #[test]
     fn fields_in_fault() -> Result<(), Fail> {
-        check_eq(changed(KEPT, 1, 16), (10, 0))?;
-        check_eq(changed(KEPT, 4, 7), (10, 2))?;
-        check_eq(changed(KEPT, 6, 2), (10, 3))?;
-        check_eq(changed(KEPT, 8, 1), (10, 4))?;
-        check_eq(changed(KEPT, 10, 1), (10, 5))?;
-        check_eq(changed(KEPT, 11, 0), (10, 6))?;
-        check_eq(changed(KEPT, 13, 3), (10, 7))?;
-        check_eq(changed(KEPT, 15, 1), (10, 8))?;
-        check_eq(changed(KEPT, 17, 3), (10, 9))?;
-        // next on the ring is not the holder of the stand got, and a trader twice
-        check_eq(changed(RING, 10, 1), (10, 5))?;
-        check_eq(changed(RING, 12, 2), (10, 6))?;
-        check_eq(changed(RING, 6, 1), (10, 3))
+        let kept = [
+            (1, 16),
+            (4, 7),
+            (6, 2),
+            (8, 1),
+            (10, 1),
+            (11, 0),
+            (13, 3),
+            (15, 1),
+            (17, 3),
+        ];
+        let fields = [0, 2, 3, 4, 5, 6, 7, 8, 9];
+        for k in 0..9 {
+            check_eq(changed(KEPT, kept[k].0, kept[k].1), (10, fields[k]))?;
+        }
+        // the ring not closed, next not the holder of the stand got, and a trader twice
+        let ring = [(6, 1), (10, 1), (12, 2)];
+        let members = [3, 5, 6];
+        for k in 0..3 {
+            check_eq(changed(RING, ring[k].0, ring[k].1), (10, members[k]))?;
+        }
+        Ok(())
     }
 
+    // the first field that is missing
     #[test]
-    fn papers_of_another_length(rt: LibcRuntime) -> Result<(), Fail> {
-        let mut paper = vec![in rt.alloc(); 2, 0, 0, 0, 1, 0, 2, 0, 2, 0, 1, 0, 0, 5]?;
-        check_eq(outcome(&LIST, paper.as_slice()), (10, 7))?;
-        let _ = paper.pop();
-        check_eq(outcome(&LIST, paper.as_slice()), (0, 2))?;
-        let _ = paper.pop();
-        check_eq(outcome(&LIST, paper.as_slice()), (10, 6))?;
-        let _ = paper.pop();
-        check_eq(outcome(&LIST, paper.as_slice()), (10, 5))?;
-        check_eq(outcome(&LIST, &[2, 0, 0]), (10, 1))?;
-        check_eq(outcome(&LIST, &[]), (10, 0))
+    fn short_papers() -> Result<(), Fail> {
+        let missing = [0, 0, 1, 1, 2, 2, 3, 3, 4, 4, 5, 5, 6, 6, 7, 8, 8, 9, 9];
+        for length in 0..19 {
+            check_eq(outcome(&LIST, &RING[..length]), (10, missing[length]))?;
+        }
+        Ok(())
+    }
+
+    // one byte too many, and lists in fault
+    #[test]
+    fn too_much_and_lists() -> Result<(), Fail> {
+        check_eq(
+            outcome(&[0], &[2, 0, 0, 0, 2, 0, 1, 0, 2, 0, 0, 9]),
+            (10, 6),
+        )?;
+        check_eq(outcome(&[41], &[]), (3, 0))?;
+        check_eq(outcome(&[2, 1, 0, 0], &KEPT), (1, 4))?;
+        check_eq(outcome(&[2, 1, 0, 2, 0], &KEPT), (4, 3))
     }
 }

@@ -5,7 +5,7 @@ ghost use lib.ListN.{getD};
 ghost use mathlib.Core.Path.{_≡_};
 
 // A byte, or 0 past the last one.
-fn byte_at(bytes: &[u8], at: usize) -> u8
+pub(crate) fn byte_at(bytes: &[u8], at: usize) -> u8
     ensures { λ r. ⌜ r ≡ getD (now (bytes .entry)) at 0 ⌝ }
 {
     if at >= bytes.len() {

@@ -6,7 +6,7 @@ ghost use mathlib.Core.Path.{_≡_};
 ghost use Rattle.std.specs.declared.option.Option.the-variants.{None};
 ghost use Rattle.lists.specs.Format.{bytes-of, encode-stands, list-bytes, lists-of, next-start, number-at, numbers, start, unless};
 ghost use Rattle.sheet.specs.Sheet.{check-fault, round-in, stand-in};
-ghost use Rattle.papers.specs.Paper.{dearer-bytes, dearer-than, gone-bytes, left-by, paper-fault, paper-for, paper-of, ring-of, room-fault, written};
+ghost use Rattle.papers.specs.Paper.{dearer-bytes, dearer-than, gone-bytes, left-by, paper-fault, paper-for, paper-of, ring-of, room-fault, trader-fault, written};
 use crate::bytes::dearer_count;
 use crate::bytes::number_at;
 use crate::bytes::put;
@@ -117,6 +117,16 @@ fn write_for(
     Ok(length)
 }
 
+// A trader who does not exist has no paper.
+fn known_trader(n: u16, trader: u16) -> Result<u16, Refusal>
+    ensures { λ r. ⌜ r ≡ unless (trader-fault n trader) trader ⌝ }
+{
+    if trader >= n {
+        return Err(Refusal::PaperFault { field: 0 });
+    }
+    Ok(trader)
+}
+
 // The bytes of the stands of a trader's list.
 fn stands_of(bytes: &[u8], trader: u16) -> &[u8]
     requires { ⌜ next-start (now bytes) (start (now bytes) trader) ≤ length (now bytes) ⌝ }
@@ -134,9 +144,7 @@ pub fn paper(bytes: &[u8], sheet: &[u8], trader: u16, out: &mut [u8]) -> Result<
     ensures out { λ r. ⌜ now (out .exit) ≡ left-by r (paper-of (lists-of (now (bytes .entry))) (now (sheet .entry)) trader) (now (out .entry)) ⌝ }
 {
     let n = check(bytes, sheet)?;
-    if trader >= n {
-        return Err(Refusal::PaperFault { field: 0 });
-    }
+    known_trader(n, trader)?;
     write_for(sheet, n, trader, stands_of(bytes, trader), out)
 }
 

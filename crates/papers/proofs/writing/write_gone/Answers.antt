@@ -31,11 +31,12 @@ loop-j-again c =
     let ts = dearer-than (c .args .stand) (numbers (c .args .stands .now)) in
     let j = c .loop-j .j in
     let more : j < length ts = omega (arith, c .pre .dearer) in
+    let room : c .args .at + 4 * j ≤ length (c .args .out .now) = omega (arith, c .pre .room) in
     let t = c .number-at-holder .result in
     let is = c .number-at-holder .ensures ∙ dearer-is (c .args .stand) (c .args .stands .now) j more in
     let first = c .put .ensures ∙ ap (written (c .args .at + 4 * j) (bytes-of t)) (c .loop-j .inv) in
     let both = c .put-in-loop-j .ensures ∙ rw (c .round-in .ensures) (ap (written (c .args .at + 4 * j + 2) (bytes-of (round-in (c .args .sheet .now) t))) first) in
-    both ∙ gone-written (c .args .sheet .now) (c .args .at) j t ts (c .args .out .now) more is (omega (arith, c .pre .room))
+    both ∙ gone-written (c .args .sheet .now) (c .args .at) j t ts (c .args .out .now) more is room
 
 pub returns : need.returns
 returns c =
