@@ -1,3 +1,5 @@
 pub mod Pointed
 pub mod Taken
 pub mod Stands
+pub mod Texts
+pub mod RingText

@@ -147,3 +147,93 @@ fn take_out(work: &mut [u16], n: usize, i: usize, round: u16)
     work[n + i] = NO_FLAG;
     work[2 * n + i] = round;
 }
+
+#[cfg(test)]
+mod tests {
+    use super::*;
+    use lists::refusals::RefusalDebug;
+    use lists::refusals::RefusalPartialEq;
+    use std::test::*;
+
+    // the results and the number of rounds of a year with at most four traders
+    fn year(bytes: &[u8]) -> ([u16; 4], u16) {
+        let mut results = [9; 4];
+        let mut work = [9; 12];
+        match run_rounds(bytes, &mut results, &mut work) {
+            Ok(done) => (results, done.rounds),
+            Err(_) => (results, 0),
+        }
+    }
+
+    #[test]
+    fn small_years() -> Result<(), Fail> {
+        check_eq(
+            year(&[3, 0, 2, 1, 0, 2, 0, 2, 2, 0, 0, 0, 2, 0, 0, 1, 0]),
+            ([1, 2, 0, 9], 1),
+        )?;
+        check_eq(
+            year(&[3, 0, 1, 1, 0, 1, 0, 0, 2, 0, 0, 1, 0]),
+            ([1, 0, 2, 9], 2),
+        )?;
+        check_eq(year(&[2, 0, 0, 0]), ([0, 1, 9, 9], 1))?;
+        check_eq(
+            year(&[3, 0, 1, 1, 0, 1, 2, 0, 2, 1, 0, 0, 0]),
+            ([0, 2, 1, 9], 2),
+        )?;
+        check_eq(
+            year(&[4, 0, 1, 1, 0, 1, 2, 0, 1, 3, 0, 1, 1, 0]),
+            ([0, 2, 3, 1], 2),
+        )?;
+        check_eq(year(&[1, 0, 0]), ([0, 9, 9, 9], 1))?;
+        check_eq(
+            year(&[4, 0, 2, 2, 0, 1, 0, 1, 2, 0, 2, 1, 0, 3, 0, 2, 0, 0, 2, 0]),
+            ([0, 2, 1, 3], 3),
+        )?;
+        check_eq(year(&[4, 0, 0, 0, 0, 0]), ([0, 1, 2, 3], 1))
+    }
+
+    #[test]
+    fn slices_are_left(rt: LibcRuntime) -> Result<(), Fail> {
+        let bytes = [3, 0, 1, 1, 0, 1, 0, 0, 2, 0, 0, 1, 0];
+        let mut results = [7; 4];
+        let mut work = [7; 10];
+        check(
+            run_rounds(&bytes, &mut results[0..2], &mut work)
+                == Err(Refusal::TooShort {
+                    lent: Lent::Results,
+                }),
+        )?;
+        check(
+            run_rounds(&bytes, &mut results, &mut work[0..8])
+                == Err(Refusal::TooShort { lent: Lent::Work }),
+        )?;
+        check_eq(results, [7; 4])?;
+        check_eq(work, [7; 10])?;
+        check(
+            run_rounds(&bytes, &mut results, &mut work)
+                == Ok(Exchanged {
+                    traders: 3,
+                    rounds: 2,
+                }),
+        )?;
+        check_eq(results, [1, 0, 2, 7])?;
+        check_eq(work, [0, 0, 0, 0, 0, 0, 0, 0, 1, 7])?;
+        let mut ring = vec![in rt.alloc(); 27, 0]?;
+        for i in 0..27u8 {
+            ring.push(1)?;
+            ring.push((i + 1) % 27)?;
+            ring.push(0)?;
+        }
+        let mut got = [0; 27];
+        let mut used = [0; 81];
+        check(
+            run_rounds(ring.as_slice(), &mut got, &mut used)
+                == Ok(Exchanged {
+                    traders: 27,
+                    rounds: 1,
+                }),
+        )?;
+        check_eq(got[0], 1)?;
+        check_eq(got[26], 0)
+    }
+}

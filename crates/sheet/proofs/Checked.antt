@@ -1,23 +1,22 @@
 -- A sheet is accepted exactly if it is valid.
 use mathlib.Core.Path.{_≡_, refl, sym, ap, _∙_}
-use mathlib.Core.Bool.{Bool, true, false, cond, _&&_, _||_, not}
+use mathlib.Core.Bool.{Bool, true, false, cond}
 use mathlib.Core.List.{List, [], _∷_}
 use mathlib.Core.Logic.{inl, inr}
-use Prim.Native.Nat.{ℕ, zero, suc, _+_, _*_, _≤_, _<_}
+use Prim.Native.Nat.{ℕ, zero, suc, _+_, _≤_, _<_}
 use native.Mathlib.Omega.{arith}
-use lib.Dec.{eqb, ltb}
+use lib.Dec.{eqb}
 use lib.ListN.{length, getD}
 use Rattle.std.proofs.shelf.Lists.{getD-default}
-use Rattle.std.proofs.shelf.Tests.{cases-bool, cases-eq, cases-lt, cases-order, eqb-true, eq-eqb, ltb-true, lt-ltb, and-parts, and-from, or-from, or-parts, not-true, not-from-false, ne-eqb, eqb-false}
+use Rattle.std.proofs.shelf.Tests.{cases-bool, cases-eq, cases-lt, cases-order, eqb-true, eq-eqb, ltb-true, lt-ltb, and-parts, or-from, or-parts, not-true, ne-eqb, eqb-false}
 use Rattle.std.specs.declared.option.Option.{Option}
 use Rattle.std.specs.declared.option.Option.the-variants.{Some, None}
 use Rattle.std.specs.declared.result.Result.{Result}
-use Rattle.std.specs.declared.result.Result.the-variants.{Ok, Err}
+use Rattle.std.specs.declared.result.Result.the-variants.{Ok}
 use Rattle.lists.specs.declared.refusals.Refusal.{Refusal}
-use Rattle.lists.specs.Certificate.{Valid-sheet}
-use Rattle.lists.specs.Format.{fault, lists-of, number-at, or-else, unless}
+use Rattle.lists.specs.Format.{fault, lists-of, number-at, unless}
 use Rattle.lists.specs.Promise.{Distinct, Proper, rank-in, rank}
-use Rattle.lists.specs.Trade.{Lists, result}
+use Rattle.lists.specs.Trade.{Lists}
 use Rattle.lists.specs.Statements.{Valid-sheet-is-the-result}
 use Rattle.lists.proofs.Accepted.{no-fault-both, accepted-proper}
 use Rattle.lists.proofs.Faults.{no-fault, refused-fault}

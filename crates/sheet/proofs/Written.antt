@@ -1,6 +1,6 @@
 -- What the exchange writes is read again as its results and rounds, and is accepted.
-use mathlib.Core.Path.{_≡_, refl, sym, ap, _∙_}
-use mathlib.Core.List.{List, [], _∷_, _++_}
+use mathlib.Core.Path.{_≡_, refl, sym, _∙_}
+use mathlib.Core.List.{List, _∷_}
 use Prim.Native.Nat.{ℕ, zero, suc, _+_, _*_, _/_, _%_, _≤_, _<_}
 use native.Mathlib.Omega.{arith}
 use lib.ListN.{length, getD}
@@ -8,8 +8,8 @@ use Rattle.std.specs.Iters.{counting}
 use Rattle.std.specs.Joined.{joined}
 use Rattle.std.specs.declared.option.Option.the-variants.{None}
 use Rattle.lists.specs.Certificate.{Valid-sheet}
-use Rattle.lists.specs.Format.{Encodable, bytes-of, encode, number-at, lists-of}
-use Rattle.lists.specs.Promise.{Proper, rank}
+use Rattle.lists.specs.Format.{number-at}
+use Rattle.lists.specs.Promise.{Proper}
 use Rattle.lists.specs.Statements.{Own-sheet-valid}
 use Rattle.lists.specs.Trade.{Lists, all-in, out, result}
 use Rattle.lists.proofs.Encoding.{number-of-bytes, reads-what-was-written}
@@ -17,7 +17,7 @@ use Rattle.lists.proofs.theory.Exchange.{all-in-sized, all-in-in}
 use Rattle.lists.proofs.theory.Rounds.{out-bound}
 use Rattle.lists.proofs.theory.Promises.{result-below}
 use Rattle.lists.proofs.theory.Results.{own-sheet-valid}
-use Rattle.sheet.specs.Sheet.{stand-in, round-in, entry, sheet-of, sheet-fault, check-fault, Valid, Accepts-what-was-written}
+use Rattle.sheet.specs.Sheet.{stand-in, round-in, entry, sheet-of, sheet-fault, Valid, Accepts-what-was-written}
 use Rattle.sheet.proofs.Checked.{valid-accepted}
 
 -- the entries of k traders from trader a on

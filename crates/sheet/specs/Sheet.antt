@@ -1,7 +1,7 @@
 -- A sheet says for each trader, in the order of numbers, the stand that it got and the round in which it went out, from 0:
 -- two bytes each, low byte first. It shows that an exchange went right, to anybody who has the lists.
 use mathlib.Core.Path.{_≡_}
-use mathlib.Core.Bool.{Bool, true, false, cond, _&&_, _||_, not}
+use mathlib.Core.Bool.{Bool, false, cond, _&&_, _||_, not}
 use mathlib.Core.List.{List, [], _∷_, _++_}
 use Prim.Native.Nat.{ℕ, zero, suc, _+_, _*_, _<_}
 use lib.Dec.{eqb, ltb}
@@ -65,6 +65,7 @@ abbrev pub entry-fault : List ℕ → ℕ → ℕ → List ℕ → Bool → Opti
 entry-fault sheet n i ts again =
     or-else (taken-fault sheet n i again) (or-else (dearer-fault sheet i ts 0) (holder-fault sheet i))
 
+-- the first fault of trader i; a trader before may have got its stand
 unfoldable pub trader-fault : Lists → List ℕ → ℕ → Option Refusal
 trader-fault ls sheet i = entry-fault sheet (length ls) i (getD ls i []) (got-before sheet i (stand-in sheet i))
 

@@ -94,3 +94,83 @@ fn write_sheet(sheet: &mut [u8], results: &[u16], work: &[u16], n: usize)
         write_entry(sheet, 4 * i, results[i], work[2 * n + i]);
     }
 }
+
+#[cfg(test)]
+mod tests {
+    use super::*;
+    use crate::checking::check;
+    use std::test::Fail;
+    use std::test::check_eq;
+
+    // trader 0 lists 1, trader 1 lists 2, trader 2 lists 1 and 0
+    const YEAR: [u8; 13] = [3, 0, 1, 1, 0, 1, 2, 0, 2, 1, 0, 0, 0];
+
+    // the number and the place of a refusal, or 0 and the number of rounds
+    fn outcome(
+        bytes: &[u8],
+        results: &mut [u16],
+        sheet: &mut [u8],
+        work: &mut [u16],
+    ) -> (u8, usize) {
+        match exchange(bytes, results, sheet, work) {
+            Ok(exchanged) => (0, exchanged.rounds as usize),
+            Err(refusal) => (refusal.number(), refusal.place()),
+        }
+    }
+
+    // the checker's answer to the sheet of a year of at most 4 traders: 0 and their number where it is accepted
+    fn checked(bytes: &[u8]) -> (u8, u16) {
+        let mut sheet = [0; 16];
+        match exchange(bytes, &mut [0; 4], &mut sheet, &mut [0; 12]) {
+            Ok(exchanged) if exchanged.traders <= 4 => match check(
+                bytes,
+                &sheet[0..4 * exchanged.traders as usize],
+            ) {
+                Ok(n) => (0, n),
+                Err(refusal) => (refusal.number(), 0),
+            },
+            _ => (1, 0),
+        }
+    }
+
+    #[test]
+    fn what_is_written() -> Result<(), Fail> {
+        let (mut results, mut sheet, mut work) = ([9; 4], [9; 14], [9; 10]);
+        check_eq(outcome(&YEAR, &mut results, &mut sheet, &mut work), (0, 2))?;
+        check_eq(results, [0, 2, 1, 9])?;
+        check_eq(sheet, [0, 0, 1, 0, 2, 0, 0, 0, 1, 0, 0, 0, 9, 9])?;
+        check_eq(work, [0, 0, 0, 0, 0, 0, 0, 0, 0, 9])
+    }
+
+    #[test]
+    fn short_slices_are_refused() -> Result<(), Fail> {
+        let (mut results, mut sheet, mut work) = ([9; 3], [9; 12], [9; 8]);
+        check_eq(
+            outcome(&[0, 0], &mut results, &mut sheet, &mut work),
+            (2, 0),
+        )?;
+        check_eq(outcome(&YEAR, &mut [0; 2], &mut [0; 11], &mut work), (5, 0))?;
+        check_eq(
+            outcome(&YEAR, &mut results, &mut [0; 11], &mut work),
+            (5, 1),
+        )?;
+        check_eq(outcome(&YEAR, &mut results, &mut sheet, &mut work), (5, 2))?;
+        check_eq(results, [9; 3])?;
+        check_eq(sheet, [9; 12])?;
+        check_eq(work, [9; 8])
+    }
+
+    // the sheet of each worked year is accepted
+    #[test]
+    fn sheets_of_years() -> Result<(), Fail> {
+        check_eq(
+            checked(&[3, 0, 2, 1, 0, 2, 0, 2, 2, 0, 0, 0, 2, 0, 0, 1, 0]),
+            (0, 3),
+        )?;
+        check_eq(checked(&[3, 0, 1, 1, 0, 1, 0, 0, 2, 0, 0, 1, 0]), (0, 3))?;
+        check_eq(checked(&[2, 0, 0, 0]), (0, 2))?;
+        check_eq(checked(&YEAR), (0, 3))?;
+        check_eq(checked(&[4, 0, 1, 1, 0, 1, 2, 0, 1, 3, 0, 1, 1, 0]), (0, 4))?;
+        check_eq(checked(&[1, 0, 0]), (0, 1))
+    }
+}

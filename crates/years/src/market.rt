@@ -59,6 +59,13 @@ impl Year {
         }
     }
 
+    // The bytes of a trader's list by itself.
+    pub fn list_bytes(&self, heap: Global, trader: u16) -> Result<Vec<u8>, AllocError> {
+        let mut bytes = Vec::new(heap);
+        push_list(&mut bytes, self.list(trader))?;
+        Ok(bytes)
+    }
+
     // The bytes of the year.
     pub fn bytes(&self, heap: Global) -> Result<Vec<u8>, AllocError> {
         self.bytes_with(heap, 0, self.list(0))

@@ -13,6 +13,7 @@ pub enum Count {
     Rounds,
     SheetsAccepted,
     RingsLate,
+    PapersAccepted,
     GroupsBetter,
     ListsTried,
     Gains,
@@ -22,7 +23,7 @@ pub enum Count {
 }
 
 // The lines of the table, in order.
-const LINES: [Count; 13] = [
+const LINES: [Count; 14] = [
     Count::Years,
     Count::YearsRefused,
     Count::UnlikeWorked,
@@ -30,6 +31,7 @@ const LINES: [Count; 13] = [
     Count::Rounds,
     Count::SheetsAccepted,
     Count::RingsLate,
+    Count::PapersAccepted,
     Count::GroupsBetter,
     Count::ListsTried,
     Count::Gains,
@@ -49,6 +51,7 @@ impl Count {
             Count::Rounds => "rounds",
             Count::SheetsAccepted => "sheets accepted",
             Count::RingsLate => "out a round too late (0)",
+            Count::PapersAccepted => "papers accepted",
             Count::GroupsBetter => "groups that do better (0)",
             Count::ListsTried => "other lists tried",
             Count::Gains => "gains by another list (0)",
@@ -61,12 +64,12 @@ impl Count {
 
 #[derive(Clone, Copy)]
 pub struct Tally {
-    counts: [u64; 13],
+    counts: [u64; 14],
 }
 
 impl Tally {
     pub fn new() -> Tally {
-        Tally { counts: [0; 13] }
+        Tally { counts: [0; 14] }
     }
 
     pub fn add(&mut self, count: Count, by: u64) {

@@ -12,6 +12,8 @@ use crate::tallies::Count;
 use crate::tallies::Tally;
 use groups::Answer;
 use groups::bettering;
+use papers::checking::check_paper;
+use papers::writing::paper;
 use sheet::checking::check;
 use sheet::exchanging::exchange;
 use std::alloc::AllocError;
@@ -24,6 +26,9 @@ const UNWRITTEN_BYTE: u8 = 255;
 
 // Other lists are tried in years of at most this many traders.
 const FEW: u16 = 4;
+
+// The longest paper of a year of six has 8 + 2 * 6 + 1 + 4 * 5 bytes.
+const PAPER_ROOM: usize = 64;
 
 // How many damaged sheets are made of each sheet.
 const DAMAGED: u8 = 8;
@@ -79,33 +84,23 @@ pub fn try_year(
     chance: &mut Chance,
     tally: &mut Tally,
 ) -> Result<(), AllocError> {
-    let bytes = year.bytes(heap)?;
+    let all = year.bytes(heap)?;
+    let bytes = all.as_slice();
     tally.add(Count::Years, 1);
-    let Some(outcome) = run(heap, bytes.as_slice(), year.traders())? else {
+    let Some(outcome) = run(heap, bytes, year.traders())? else {
         tally.add(Count::YearsRefused, 1);
         return Ok(());
     };
+    let sheet = outcome.sheet.as_slice();
     tally.add(Count::Traders, year.traders() as u64);
     tally.add(Count::Rounds, outcome.rounds as u64);
-    try_sheet(
-        heap,
-        year,
-        bytes.as_slice(),
-        outcome.sheet.as_slice(),
-        tally,
-    )?;
-    try_groups(bytes.as_slice(), outcome.results.as_slice(), tally);
+    try_sheet(heap, year, bytes, sheet, tally)?;
+    try_papers(heap, year, bytes, sheet, tally)?;
+    try_groups(bytes, outcome.results.as_slice(), tally);
     if year.traders() <= FEW {
         try_lists(heap, year, &outcome, chance.below(year.traders()), tally)?;
     }
-    try_damaged(
-        heap,
-        year,
-        bytes.as_slice(),
-        outcome.sheet.as_slice(),
-        chance,
-        tally,
-    )
+    try_damaged(heap, year, bytes, sheet, chance, tally)
 }
 
 // The sheet is accepted, and not with any ring a round earlier: so the rounds are the least.
@@ -147,6 +142,38 @@ fn accepted(
         tally.add(Count::OpinionsDiffer, 1);
     }
     Ok(answer.0 == 0)
+}
+
+// Every trader's paper is accepted with that trader's list.
+fn try_papers(
+    heap: Global,
+    year: &Year,
+    bytes: &[u8],
+    sheet: &[u8],
+    tally: &mut Tally,
+) -> Result<(), AllocError> {
+    for trader in 0..year.traders() {
+        let list = year.list_bytes(heap, trader)?;
+        if paper_holds(bytes, sheet, trader, list.as_slice()) {
+            tally.add(Count::PapersAccepted, 1);
+        }
+    }
+    Ok(())
+}
+
+// The paper of a trader is written, and is accepted with the list as that trader's.
+fn paper_holds(bytes: &[u8], sheet: &[u8], trader: u16, list: &[u8]) -> bool {
+    let mut out = [0; PAPER_ROOM];
+    let Ok(length) = paper(bytes, sheet, trader, &mut out) else {
+        return false;
+    };
+    if length > out.len() {
+        return false;
+    }
+    match check_paper(list, &out[0..length]) {
+        Ok(own) => own == trader,
+        Err(_) => false,
+    }
 }
 
 // No group does better than the results.

@@ -1,7 +1,5 @@
-use mathlib.Core.Path.{_≡_, sym, _∙_}
+use mathlib.Core.Path.{_≡_}
 use Rattle.std.proofs.shelf.Results.{err-from-errBy}
-use Rattle.std.specs.declared.result.Result.{Result}
-use Rattle.std.specs.declared.result.Result.the-variants.{Err}
 use Rattle.lists.specs.Format.{number-at, unless}
 use Rattle.lists.proofs.Faults.{refused-fault, no-fault}
 use Rattle.sheet.specs.Sheet.{check-fault}

@@ -1,9 +1,9 @@
-use Prim.Native.Nat.{_+_, _*_, _≤_, _<_}
+use Prim.Native.Nat.{_+_, _*_, _<_}
 use mathlib.Core.Path.{_≡_, sym, ap, _∙_}
 use native.Mathlib.Omega.{arith}
 use lib.ListN.{length}
 use Rattle.std.proofs.shelf.Results.{err-from-errBy}
-use Rattle.std.specs.declared.result.Result.the-variants.{Ok, Err}
+use Rattle.std.specs.declared.result.Result.the-variants.{Ok}
 use Rattle.lists.proofs.Faults.{refused-fault, no-fault}
 use Rattle.sheet.proofs.Dearer.{dearer-found, dearer-wrong, dearer-next, dearer-end}
 use Rattle.sheet.proofs.checking.check_list.Needs as need

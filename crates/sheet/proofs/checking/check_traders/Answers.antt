@@ -1,14 +1,13 @@
-use Prim.Native.Nat.{ℕ, _+_, _*_, _-_, _≤_, _<_}
+use Prim.Native.Nat.{_+_, _-_, _<_}
 use mathlib.Core.Path.{_≡_, refl, sym, ap, _∙_}
 use native.Mathlib.Omega.{arith}
 use borrow.Author.Needs.{needs}
-use lib.ListN.{length, getD, length-set}
+use lib.ListN.{length, length-set}
 use Rattle.std.proofs.shelf.Results.{err-from-errBy}
-use Rattle.std.specs.declared.option.Option.the-variants.{None}
-use Rattle.lists.specs.Format.{lists-of, list-bytes, next-start, number-at}
+use Rattle.lists.specs.Format.{lists-of, list-bytes, number-at}
 use Rattle.lists.proofs.Accepted.{some-traders}
 use Rattle.lists.proofs.Faults.{refused-fault, no-fault}
-use Rattle.sheet.specs.Sheet.{stand-in, traders-fault}
+use Rattle.sheet.specs.Sheet.{stand-in}
 use Rattle.sheet.proofs.Traders.{traders-wrong, traders-next, traders-done, entry-below, marks-none, marks-more, within, part-length, part-short, part-exists, trader-is, on}
 use Rattle.sheet.proofs.checking.check_traders.Needs as need
 

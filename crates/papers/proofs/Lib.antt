@@ -1,0 +1,10 @@
+pub mod Places
+pub mod Rings
+pub mod Listed
+pub mod Writes
+pub mod Around
+pub mod Sources
+pub mod Orbits
+pub mod Fields
+pub mod Passes
+pub mod Agrees

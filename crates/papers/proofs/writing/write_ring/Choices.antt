@@ -1,0 +1,14 @@
+use Prim.Native.Nat.{_<_}
+use mathlib.Core.Path.{_≡_}
+use lib.ListN.{length, take}
+use Rattle.lists.specs.Certificate.{steps}
+use Rattle.lists.specs.Format.{encode-stands}
+use Rattle.sheet.specs.Sheet.{stand-in}
+use Rattle.papers.specs.Paper.{ring-of, written}
+use Rattle.papers.proofs.writing.write_ring.Given as given
+
+abbrev pub Inv-loop-k : given.InvT-loop-k
+Inv-loop-k l =
+    (l .at < l .n)
+    × (l .at ≡ steps (stand-in (l .sheet)) (l .k) (l .trader))
+    × (l .out ≡ written 8 (encode-stands (take (l .k) (ring-of (l .sheet) (l .n) (l .trader)))) (l .entry .out))

@@ -1,0 +1,3 @@
+pub mod Paper
+pub mod Faults
+pub mod Trust
