@@ -17,6 +17,8 @@ use lists::refusals::Refusal;
 use options::Command;
 use options::Options;
 use output::write_whole;
+use papers::pages::push_page;
+use papers::splitting::first_size;
 use papers::writing::paper;
 use rounds::report::push_report;
 use rounds::running::Exchanged;
@@ -83,6 +85,24 @@ fn all_papers(heap: Global, bytes: &[u8], year: &Year) -> Result<Vec<u8>, AllocE
     Ok(papers)
 }
 
+// A printed page for each of n papers that stand one after another, with a form feed between pages.
+fn all_pages(heap: Global, papers: &[u8], n: u16) -> Result<String, AllocError> {
+    let mut text = String::new(heap);
+    let mut from = 0usize;
+    for trader in 0..n {
+        let Some(rest) = papers.get(from..papers.len()) else {
+            break;
+        };
+        let size = first_size(rest).min(rest.len());
+        if trader > 0 {
+            text.push('\u{c}')?;
+        }
+        push_page(&mut text, &rest[0..size])?;
+        from = from.saturating_add(size);
+    }
+    Ok(text)
+}
+
 // Writes the files that were asked for.
 fn write_files(
     rt: &LibcRuntime,
@@ -93,9 +113,16 @@ fn write_files(
     if let Some(name) = &options.sheet {
         write_whole(rt, name.as_str(), year.sheet.as_slice())?;
     }
+    if options.paper_bytes.is_none() && options.pages.is_none() {
+        return Ok(());
+    }
+    let papers = all_papers(rt.alloc(), bytes, year)?;
     if let Some(name) = &options.paper_bytes {
-        let papers = all_papers(rt.alloc(), bytes, year)?;
         write_whole(rt, name.as_str(), papers.as_slice())?;
+    }
+    if let Some(name) = &options.pages {
+        let pages = all_pages(rt.alloc(), papers.as_slice(), year.exchanged.traders)?;
+        write_whole(rt, name.as_str(), pages.as_bytes())?;
     }
     Ok(())
 }

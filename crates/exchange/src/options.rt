@@ -4,12 +4,13 @@ use console::EndedFromAlloc;
 use console::EndedFromIo;
 use std::env;
 
-pub const USAGE: &str = "usage: exchange [--sheet FILE] [--paper-bytes FILE] [LISTS]
+pub const USAGE: &str = "usage: exchange [--sheet FILE] [--papers FILE] [--paper-bytes FILE] [LISTS]
 
 Reads the lists of a year from the file LISTS, or from standard input where
 none is named or it is -, does the exchange, and prints what everybody gets.
 
   --sheet FILE        also write the sheet, which anybody can check
+  --papers FILE       also write a page to print for each trader
   --paper-bytes FILE  also write the papers of all traders, one after another
   --help              print this text
 
@@ -21,6 +22,7 @@ then 1.
 pub struct Options {
     pub lists: String,
     pub sheet: Option<String>,
+    pub pages: Option<String>,
     pub paper_bytes: Option<String>,
 }
 
@@ -36,41 +38,49 @@ pub enum Command {
 enum Next {
     Word,
     Sheet,
+    Pages,
     PaperBytes,
 }
 
+// The option whose file comes next, if the word is one.
+fn option_named(word: &str) -> Next {
+    if word == "--sheet" {
+        Next::Sheet
+    } else if word == "--papers" {
+        Next::Pages
+    } else if word == "--paper-bytes" {
+        Next::PaperBytes
+    } else {
+        Next::Word
+    }
+}
+
 pub fn read_options(rt: &LibcRuntime) -> Result<Command, Ended> {
-    let mut lists = None;
-    let mut sheet = None;
-    let mut paper_bytes = None;
+    let (mut lists, mut sheet, mut pages, mut paper_bytes) = (None, None, None, None);
     let mut next = Next::Word;
     let mut words = env::args(rt)?;
     let _program = words.next();
     for word in words {
-        match next {
-            Next::Sheet => {
-                sheet = Some(word);
-                next = Next::Word;
-            }
-            Next::PaperBytes => {
-                paper_bytes = Some(word);
-                next = Next::Word;
-            }
-            Next::Word => {
+        let named = option_named(word.as_str());
+        match (next, named) {
+            (Next::Sheet, _) => sheet = Some(word),
+            (Next::Pages, _) => pages = Some(word),
+            (Next::PaperBytes, _) => paper_bytes = Some(word),
+            (Next::Word, Next::Word) => {
                 if word.as_str() == "--help" {
                     return Ok(Command::Help);
                 }
-                if word.as_str() == "--sheet" {
-                    next = Next::Sheet;
-                } else if word.as_str() == "--paper-bytes" {
-                    next = Next::PaperBytes;
-                } else if lists.is_some() {
+                if lists.is_some() {
                     return Ok(Command::Wrong);
-                } else {
-                    lists = Some(word);
                 }
+                lists = Some(word);
+            }
+            (Next::Word, option) => {
+                next = option;
+                continue;
             }
         }
+        next = Next::Word;
     }
     let Next::Word = next else {
         return Ok(Command::Wrong);
@@ -82,6 +92,7 @@ pub fn read_options(rt: &LibcRuntime) -> Result<Command, Ended> {
     Ok(Command::Run(Options {
         lists,
         sheet,
+        pages,
         paper_bytes,
     }))
 }
