@@ -1,4 +1,5 @@
 // The program `years`: the worked years and thousands of random ones, each tried in all the ways that few traders allow.
+mod by_hand;
 mod chances;
 mod entries;
 mod market;
@@ -6,6 +7,8 @@ mod opinions;
 mod tallies;
 mod trials;
 
+use by_hand::TABLE;
+use by_hand::Worked;
 use chances::Chance;
 use market::Year;
 use std::alloc::AllocError;
@@ -24,59 +27,24 @@ const MOST_TRADERS: u16 = 6;
 // How many random years there are of each number of traders.
 const YEARS: u16 = 1000;
 
-// Tries a year that was worked out by hand, and compares its results and rounds.
-fn try_worked(
-    heap: Global,
-    lists: &[&[u16]],
-    results: &[u16],
-    rounds: u16,
-    chance: &mut Chance,
-    tally: &mut Tally,
-) -> Result<(), AllocError> {
-    let year = Year::of(heap, lists)?;
+// The exchange gives the results and rounds that were worked out.
+fn is_as_worked(heap: Global, year: &Year, worked: &Worked) -> Result<bool, AllocError> {
     let bytes = year.bytes(heap)?;
-    let as_worked = match run(heap, bytes.as_slice(), year.traders())? {
-        Some(outcome) => outcome.is(results, rounds),
-        None => false,
-    };
-    if !as_worked {
-        tally.add(Count::UnlikeWorked, 1);
+    match run(heap, bytes.as_slice(), year.traders())? {
+        Some(outcome) => Ok(outcome.is(worked.results, worked.rounds)),
+        None => Ok(false),
     }
-    try_year(heap, &year, chance, tally)
 }
 
-// The years that were worked out by hand: lists, results, rounds.
 fn worked_years(heap: Global, chance: &mut Chance) -> Result<Tally, AllocError> {
     let mut tally = Tally::new();
-    let all = &mut tally;
-    try_worked(
-        heap,
-        &[&[1, 2], &[2, 0], &[0, 1]],
-        &[1, 2, 0],
-        1,
-        chance,
-        all,
-    )?;
-    try_worked(heap, &[&[1], &[0], &[0, 1]], &[1, 0, 2], 2, chance, all)?;
-    try_worked(heap, &[&[], &[]], &[0, 1], 1, chance, all)?;
-    try_worked(heap, &[&[1], &[2], &[1, 0]], &[0, 2, 1], 2, chance, all)?;
-    try_worked(
-        heap,
-        &[&[1], &[2], &[3], &[1]],
-        &[0, 2, 3, 1],
-        2,
-        chance,
-        all,
-    )?;
-    try_worked(
-        heap,
-        &[&[2, 1], &[2], &[1, 3], &[0, 2]],
-        &[0, 2, 1, 3],
-        3,
-        chance,
-        all,
-    )?;
-    try_worked(heap, &[&[]], &[0], 1, chance, all)?;
+    for worked in TABLE.iter() {
+        let year = Year::of(heap, worked.lists)?;
+        if !is_as_worked(heap, &year, worked)? {
+            tally.add(Count::UnlikeWorked, 1);
+        }
+        try_year(heap, &year, chance, &mut tally)?;
+    }
     Ok(tally)
 }
 
