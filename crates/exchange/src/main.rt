@@ -16,6 +16,10 @@ use console::refusal_line;
 use lists::refusals::Refusal;
 use options::Command;
 use options::Options;
+use output::write_whole;
+use papers::pages::push_page;
+use papers::splitting::first_size;
+use papers::writing::paper;
 use rounds::report::push_report;
 use rounds::running::Exchanged;
 use sheet::exchanging::exchange;
@@ -26,6 +30,9 @@ use std::alloc::Global;
 const MOST_BYTES: u64 = 324_003;
 
 const MOST_TRADERS: usize = 4000;
+
+// The longest paper: a ring of all traders, and a list of 40 dearer stands.
+const MOST_PAPER: usize = 8169;
 
 // What an exchange has left in its slices, cut to the number of traders.
 #[derive(Drop)]
@@ -63,12 +70,67 @@ fn report(heap: Global, year: &Year) -> Result<String, AllocError>
     Ok(text)
 }
 
+// The papers of all traders, one after another, in the order of their numbers.
+fn all_papers(heap: Global, bytes: &[u8], year: &Year) -> Result<Vec<u8>, AllocError> {
+    let mut out = vec![in heap; 0u8; MOST_PAPER]?;
+    let mut papers = Vec::new(heap);
+    for trader in 0..year.exchanged.traders {
+        // the exchange's own sheet is never refused, and there is room for the longest paper
+        if let Ok(size) = paper(bytes, year.sheet.as_slice(), trader, &mut out) {
+            if let Some(part) = out.as_slice().get(0..size) {
+                papers.extend_from_slice(part)?;
+            }
+        }
+    }
+    Ok(papers)
+}
+
+// A printed page for each of n papers that stand one after another, with a form feed between pages.
+fn all_pages(heap: Global, papers: &[u8], n: u16) -> Result<String, AllocError> {
+    let mut text = String::new(heap);
+    let mut from = 0usize;
+    for trader in 0..n {
+        let Some(rest) = papers.get(from..papers.len()) else {
+            break;
+        };
+        let size = first_size(rest).min(rest.len());
+        if trader > 0 {
+            text.push('\u{c}')?;
+        }
+        push_page(&mut text, &rest[0..size])?;
+        from = from.saturating_add(size);
+    }
+    Ok(text)
+}
+
+// Writes the files that were asked for.
+fn write_files(
+    rt: &LibcRuntime,
+    options: &Options,
+    bytes: &[u8],
+    year: &Year,
+) -> Result<(), Ended> {
+    if let Some(name) = &options.sheet {
+        write_whole(rt, name.as_str(), year.sheet.as_slice())?;
+    }
+    if options.paper_bytes.is_none() && options.pages.is_none() {
+        return Ok(());
+    }
+    let papers = all_papers(rt.alloc(), bytes, year)?;
+    if let Some(name) = &options.paper_bytes {
+        write_whole(rt, name.as_str(), papers.as_slice())?;
+    }
+    if let Some(name) = &options.pages {
+        let pages = all_pages(rt.alloc(), papers.as_slice(), year.exchanged.traders)?;
+        write_whole(rt, name.as_str(), pages.as_bytes())?;
+    }
+    Ok(())
+}
+
 fn run(rt: &LibcRuntime, options: &Options, bytes: &[u8]) -> Result<(), Ended> {
     match exchange_year(rt.alloc(), bytes)? {
         Ok(year) => {
-            if let Some(name) = &options.sheet {
-                output::write_whole(rt, name.as_str(), year.sheet.as_slice())?;
-            }
+            write_files(rt, options, bytes, &year)?;
             let text = report(rt.alloc(), &year)?;
             print!(rt, "{text}")?;
             Ok(())

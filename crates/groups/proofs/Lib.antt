@@ -1,4 +1,3 @@
-pub mod Outcomes
 pub mod Prefixes
 pub mod Ranks
 pub mod Tables

@@ -43,18 +43,18 @@ or-refused None later = later
 
 -- Why no search is made: the first fault of the lists; else more than 8 traders; else fewer results than traders. None
 -- where one is made.
-unfoldable pub unsearched : List ℕ → List ℕ → Option Unsearched
+abbrev pub unsearched : List ℕ → List ℕ → Option Unsearched
 unsearched bs results =
     or-refused (fault bs)
     (cond (ltb 8 (number-at bs 0)) (Some TooMany)
     (cond (ltb (length results) (number-at bs 0)) (Some (Refused (TooShort Results))) None))
 
--- What the search answers: why none is made; or a group and its share that better the results; or that no group does,
--- whatever the group and its share.
+-- What an answer says: a group and its share that better the results; or that no group does, whatever the group and its share.
+abbrev pub Right-answer : Lists → List ℕ → Answer → Type 0
+Right-answer ls results (Bettered share) = Betters ls (stand-of results) (in-group share) (stand-of share)
+Right-answer ls results Unbettered = (group : ℕ → Bool) (share : ℕ → ℕ) → Betters ls (stand-of results) group share → ⊥
+
+-- What the search answers: why none is made, or what it found.
 abbrev pub Outcome : List ℕ → List ℕ → Result Answer Unsearched → Type 0
 Outcome bs results (Err e) = unsearched bs results ≡ Some e
-Outcome bs results (Ok (Bettered share)) =
-    (unsearched bs results ≡ None) × Betters (lists-of bs) (stand-of results) (in-group share) (stand-of share)
-Outcome bs results (Ok Unbettered) =
-    (unsearched bs results ≡ None)
-    × ((group : ℕ → Bool) (share : ℕ → ℕ) → Betters (lists-of bs) (stand-of results) group share → ⊥)
+Outcome bs results (Ok answer) = (unsearched bs results ≡ None) × Right-answer (lists-of bs) results answer

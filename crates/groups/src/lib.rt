@@ -10,7 +10,7 @@ ghost use Rattle.std.specs.Options.{Cases as BySome};
 ghost use Rattle.std.specs.declared.option.Option.the-variants.{None};
 ghost use Rattle.lists.specs.Format.{fault, lists-of, number-at, numbers};
 ghost use Rattle.lists.specs.Promise.{rank-in};
-ghost use Rattle.groups.specs.Groups.{in-group, Outcome, stand-of};
+ghost use Rattle.groups.specs.Groups.{Outcome, Right-answer, in-group, stand-of};
 ghost use Rattle.groups.specs.Sharings.{Brought, Differs, Hopeless, Right, Same, Sharing, Sound, Unbrought};
 use lists::reading::list_at;
 use lists::reading::read;
@@ -182,10 +182,19 @@ pub fn bettering(bytes: &[u8], results: &[u16]) -> Result<Answer, Unsearched>
         };
         return Err(Unsearched::Refused { refusal });
     }
+    Ok(search_year(bytes, results, n))
+}
+
+// The search in a year of at most 8 traders, whose lists were accepted.
+fn search_year(bytes: &[u8], results: &[u16], n: u16) -> Answer
+    requires accepted { ⌜ fault (now bytes) ≡ None ⌝ ∗ ⌜ n ≡ number-at (now bytes) 0 ⌝ }
+    requires few { ⌜ n ≤ 8 ⌝ ∗ ⌜ n ≤ length (now results) ⌝ }
+    ensures { λ r. ⌜ Right-answer (lists-of (now (bytes .entry))) (now (results .entry)) r ⌝ }
+{
     let table = table_of(bytes, results, n);
     match complete(&table, results, n as usize, 0, [OUT; 8]) {
-        Some(share) => Ok(Answer::Bettered { share }),
-        None => Ok(Answer::Unbettered),
+        Some(share) => Answer::Bettered { share },
+        None => Answer::Unbettered,
     }
 }
 

@@ -1,27 +1,25 @@
 -- The slices after k rounds, and that one more round of the code is one round of the exchange.
-use mathlib.Core.Path.{_≡_, refl, sym, _∙_, ap, subst}
-use mathlib.Core.Bool.{Bool, true, false, cond, _&&_}
+use mathlib.Core.Path.{_≡_, refl, sym, _∙_, ap}
+use mathlib.Core.Bool.{true, false, cond, _&&_}
 use mathlib.Core.List.{List, [], _++_}
-use mathlib.Core.Logic.{_⊎_, inl, inr}
-use Prim.Native.Nat.{ℕ, zero, suc, _+_, _-_, _*_, _≤_, _<_}
+use mathlib.Core.Logic.{inl, inr}
+use Prim.Native.Nat.{ℕ, suc, _+_, _-_, _*_, _≤_, _<_}
 use native.Mathlib.Omega.{arith}
-use native.Mathlib.Numerals.{add-one}
-use borrow.Author.Needs.{needs}
 use lib.Dec.{eqb, ltb}
-use lib.ListN.{length, getD, set, take, drop, replicate}
-use Rattle.std.specs.declared.result.Result.the-variants.{Ok, Err}
-use Rattle.std.proofs.shelf.Tests.{cases-bool, cases-lt, cases-eq, cond-true, cond-false, both-ways, eqb-true}
-use Rattle.std.proofs.shelf.Lists.{ext-getD, getD-default, getD-take, getD-drop, getD-past, getD-replicate, getD-append-left, getD-append-right, length-append, length-drop, length-map, length-replicate, length-take-le}
+use lib.ListN.{length, getD, take, drop, replicate}
+use Rattle.std.specs.declared.result.Result.the-variants.{Ok}
+use Rattle.std.proofs.shelf.Tests.{cases-bool, cases-lt, cond-true, cond-false, both-ways}
+use Rattle.std.proofs.shelf.Lists.{ext-getD, getD-take, getD-drop, getD-replicate, getD-append-left, getD-append-right, length-append, length-drop, length-replicate, length-take-le}
 use Rattle.std.proofs.shelf.Counted.{getD-map-counting, length-map-counting}
-use Rattle.lists.specs.Trade.{Lists, Standing, is-in, first-in, points, on-ring, rounds, all-in, result, out, none-in, count-from, round-count}
+use Rattle.lists.specs.Trade.{Lists, is-in, points, on-ring, rounds, all-in, result, out, none-in, count-from, round-count}
 use Rattle.lists.proofs.theory.Walks.{none-in-all, none-in-from, none-in-false, out-past, ring-in}
-use Rattle.lists.proofs.theory.Exchange.{rounds-start, rounds-next, rounds-inside-length, rounds-inside-next, rounds-inside-bits, all-in-in, ring-out, ring-got, count-start, count-more, count-end, some-in-bound}
+use Rattle.lists.proofs.theory.Exchange.{rounds-start, rounds-inside-length, rounds-inside-next, rounds-inside-bits, all-in-in, ring-out, ring-got, count-start, count-more, count-end, some-in-bound}
 use Rattle.pointing.specs.Pointing.{points-from, stand-of}
 use Rattle.pointing.proofs.Places.{exchange-points}
 use Rattle.rings.specs.Ring.{ring-flags, left-by}
 use Rattle.rings.proofs.Law.{Follows, flag-law}
 use Rattle.rounds.specs.Run.{results-of, outs-of}
-use Rattle.rounds.specs.Turn.{All-pointed, flagged-at, pointed-at}
+use Rattle.rounds.specs.Turn.{All-pointed, flagged-at}
 use Rattle.rounds.proofs.Taken.{Taken, Bits, goes-all, still-in, still-none, still-some}
 
 -- The slices after k rounds: who is in, and for everybody who is out the result and its round. Past the entries of n traders

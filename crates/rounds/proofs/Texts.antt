@@ -128,7 +128,3 @@ moved-counts xs i count all l k h =
 pub moved-end : (xs : List ℕ) (i count : ℕ) → length xs ≤ i → count + moved-from i (drop i xs) ≡ moved xs → count ≡ moved xs
 unfolding moved-from
 moved-end xs i count l h = let h′ : count + moved-from i [] ≡ moved xs = rw (drop-all i xs l) at h in omega arith
-
-pub report-joined : (text : List ℕ) (rounds : ℕ) (rs one two : List ℕ) (k : ℕ) → k ≡ length rs → one ≡ text ++ head-of rounds rs →
-    two ≡ one ++ lines-of rs k → two ≡ text ++ report-of rounds rs
-report-joined text rounds rs one two k e p q = rw (q, p, e) (simp append-assoc)

@@ -1,13 +1,13 @@
 // The text that the program prints of an exchange's results.
-ghost use Prim.Native.Nat.{_+_, _-_, _<_};
-ghost use Rattle.rounds.specs.Report.{stand-got, keeps, more, moved, ring-on, ring-from, ring-text, line-of, head-of, report-of, RingWritten};
+ghost use Prim.Native.Nat.{ℕ, _+_, _-_, _<_};
+ghost use Rattle.rounds.specs.Report.{stand-got, keeps, more, moved, ring-on, ring-from, ring-text, line-of, lines-of, head-of, report-of, RingWritten};
 ghost use Rattle.std.specs.Of.String.{string-bytes};
 ghost use Rattle.std.specs.Vec.{made};
 ghost use Rattle.std.specs.Written.{decimal};
 ghost use lib.Dec.{ltb};
 ghost use lib.ListN.{length};
 ghost use mathlib.Core.Bool.{not};
-ghost use mathlib.Core.List.{[], _∷_, _++_};
+ghost use mathlib.Core.List.{List, [], _∷_, _++_};
 ghost use mathlib.Core.Path.{_≡_};
 use std::alloc::AllocError;
 
@@ -124,7 +124,7 @@ fn push_ring(text: &mut String, results: &[u16], trader: usize) -> Result<(), Al
 }
 
 // Appends the line of a trader.
-pub fn push_line(text: &mut String, results: &[u16], trader: usize) -> Result<(), AllocError>
+fn push_line(text: &mut String, results: &[u16], trader: usize) -> Result<(), AllocError>
     ensures { λ r. ⌜ made r (λ _. string-bytes (now (text .exit)) ≡ string-bytes (now (text .entry)) ++ line-of (now (results .entry)) trader) ⌝ }
 {
     push_word(text, "trader ", trader)?;
@@ -151,7 +151,7 @@ fn moved(results: &[u16]) -> usize
 }
 
 // Appends the first line.
-pub fn push_head(text: &mut String, rounds: u16, results: &[u16]) -> Result<(), AllocError>
+fn push_head(text: &mut String, rounds: u16, results: &[u16]) -> Result<(), AllocError>
     ensures { λ r. ⌜ made r (λ _. string-bytes (now (text .exit)) ≡ string-bytes (now (text .entry)) ++ head-of rounds (now (results .entry))) ⌝ }
 {
     push_word(text, "rounds ", rounds as usize)?;
@@ -159,15 +159,22 @@ pub fn push_head(text: &mut String, rounds: u16, results: &[u16]) -> Result<(), 
     text.push_str("\n")
 }
 
+// Appends the line of each trader, behind what stands there: some text xs, and ys after it.
+fn push_lines(text: &mut String, results: &[u16]) -> Result<(), AllocError>
+    ensures { λ r. ⌜ made r (λ _. (xs ys : List ℕ) → string-bytes (now (text .entry)) ≡ xs ++ ys → string-bytes (now (text .exit)) ≡ xs ++ (ys ++ lines-of (now (results .entry)) (length (now (results .entry))))) ⌝ }
+{
+    for trader in 0..results.len() {
+        push_line(text, results, trader)?;
+    }
+    Ok(())
+}
+
 // Appends the first line, and the line of each trader.
 pub fn push_report(text: &mut String, rounds: u16, results: &[u16]) -> Result<(), AllocError>
     ensures { λ r. ⌜ made r (λ _. string-bytes (now (text .exit)) ≡ string-bytes (now (text .entry)) ++ report-of rounds (now (results .entry))) ⌝ }
 {
     push_head(text, rounds, results)?;
-    for trader in 0..results.len() {
-        push_line(text, results, trader)?;
-    }
-    Ok(())
+    push_lines(text, results)
 }
 
 // Of the exchange's results, what is written as a trader's ring is its ring.

@@ -3,7 +3,7 @@ ghost use Prim.Native.Nat.{_+_, _*_, _<_, _≤_};
 ghost use lib.ListN.{drop, length, replicate};
 ghost use mathlib.Core.List.{_++_};
 ghost use mathlib.Core.Path.{_≡_};
-ghost use Rattle.lists.specs.Format.{fault, list-bytes, lists-of, number-at, unless};
+ghost use Rattle.lists.specs.Format.{fault, lists-of, number-at, unless};
 ghost use Rattle.std.specs.declared.option.Option.the-variants.{None};
 ghost use Rattle.std.specs.declared.result.Result.the-variants.{Ok};
 ghost use Rattle.rounds.specs.Run.{exchanged, results-left, run-fault, work-left};
@@ -52,7 +52,8 @@ pub fn run_rounds(bytes: &[u8], results: &mut [u16], work: &mut [u16]) -> Result
     all_rounds(bytes, n, results, work)
 }
 
-// The rounds of accepted lists, with room for them.
+// The rounds of accepted lists, with room for them. `results` has where each trader who is in points, and so what it has got
+// once it is out.
 fn all_rounds(
     bytes: &[u8],
     n: u16,
@@ -73,6 +74,7 @@ fn all_rounds(
     'rounds: loop {
         point_all(bytes, n, work, results);
         mark_rings(&results[0..size], work)?;
+        // how many are in after the round
         let mut left = 0;
         'traders: for i in 0..size {
             if on_ring(work, size, i) {
@@ -110,6 +112,7 @@ fn point_all(bytes: &[u8], n: u16, work: &[u16], results: &mut [u16])
 {
     let mut at = 2;
     'traders: for i in 0..n {
+        // accepted lists have a list for each trader
         let Some(list) = list_at(bytes, at) else {
             break 'traders;
         };

@@ -9,8 +9,8 @@ use Rattle.std.specs.Iters.{counting}
 use Rattle.std.specs.Joined.{joined}
 use Rattle.std.specs.declared.option.Option.the-variants.{None}
 use Rattle.std.proofs.shelf.Tests.{lt-ltb, ltb-true}
-use Rattle.std.proofs.shelf.Lists.{getD-append-left, getD-append-right, set-getD, length-replicate, drop-at}
-use Rattle.std.proofs.shelf.Counted.{length-map-counting, getD-map-counting}
+use Rattle.std.proofs.shelf.Lists.{getD-append-left, set-getD, length-replicate, drop-at}
+use Rattle.std.proofs.shelf.Counted.{length-map-counting}
 use Rattle.lists.specs.Format.{bytes-of, fault, lists-of, number-at}
 use Rattle.lists.specs.Promise.{Proper, rank}
 use Rattle.lists.specs.Trade.{Lists, out, result}
@@ -20,30 +20,13 @@ use Rattle.lists.proofs.theory.Certificates.{turns}
 use Rattle.lists.proofs.theory.Exchange.{certificate}
 use Rattle.lists.proofs.theory.Finite.{preimage}
 use Rattle.lists.proofs.theory.Promises.{rank-set-same, result-apart, result-below, result-own, result-truthful, result-unbettered}
+use Rattle.rounds.proofs.Law.{out-at, result-at}
 use Rattle.rounds.specs.Run.{outs-of, results-of}
 use Rattle.sheet.specs.Exchange.{Promised, entries}
 use Rattle.sheet.specs.Sheet.{entry, round-in, sheet-of, stand-in}
 use Rattle.sheet.proofs.Written.{length-sheet, round-written, stand-written}
 
--- what was written, at each place
-pub result-at : (ls : Lists) (rest : List ℕ) (i : ℕ) → i < length ls → getD (results-of ls ++ rest) i 0 ≡ result ls i
-unfolding results-of
-result-at ls rest i h =
-    let size = length-map-counting (result ls) 0 (length ls) in
-    getD-append-left (map (result ls) (counting 0 (length ls))) rest 0 i (omega arith)
-    ∙ getD-map-counting (result ls) 0 (length ls) i i 0 h (omega arith)
-
-pub out-at : (ls : Lists) (rest : List ℕ) (i : ℕ) → i < length ls →
-    getD (replicate (2 * length ls) 0 ++ (outs-of ls ++ rest)) (2 * length ls + i) 0 ≡ out ls i
-unfolding outs-of
-out-at ls rest i h =
-    let n = length ls in
-    let size = length-map-counting (out ls) 0 (length ls) in
-    let back : 2 * length ls + i - 2 * length ls ≡ i = omega arith in
-    getD-append-right (replicate (2 * n) 0) (outs-of ls ++ rest) (2 * n) (2 * n + i) 0 (length-replicate (2 * n) 0) (omega arith)
-    ∙ (rw back (getD-append-left (map (out ls) (counting 0 (length ls))) rest 0 i (omega arith))
-    ∙ getD-map-counting (out ls) 0 (length ls) i i 0 h (omega arith))
-
+-- a number within the front of what was written
 number-in-front : (front rest : List ℕ) (p : ℕ) → p + 1 < length front → number-at (front ++ rest) p ≡ number-at front p
 number-in-front front rest p h =
     let low = getD-append-left front rest 0 p (omega arith) in

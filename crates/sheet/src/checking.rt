@@ -175,6 +175,16 @@ pub fn check(bytes: &[u8], sheet: &[u8]) -> Result<u16, Refusal>
     ensures says { λ r. ⌜ Checked (now (bytes .entry)) (now (sheet .entry)) r ⌝ }
 {
     let n = read(bytes)?;
+    check_accepted(bytes, sheet, n)
+}
+
+// Checks a sheet against accepted lists.
+fn check_accepted(bytes: &[u8], sheet: &[u8], n: u16) -> Result<u16, Refusal>
+    requires accepted { ⌜ fault (now bytes) ≡ None ⌝ }
+    requires traders { ⌜ n ≡ number-at (now bytes) 0 ⌝ }
+    ensures answer { λ r. ⌜ r ≡ unless (check-fault (now (bytes .entry)) (now (sheet .entry))) (number-at (now (bytes .entry)) 0) ⌝ }
+    ensures says { λ r. ⌜ Checked (now (bytes .entry)) (now (sheet .entry)) r ⌝ }
+{
     check_length(sheet, n)?;
     check_traders(bytes, sheet, n)
 }

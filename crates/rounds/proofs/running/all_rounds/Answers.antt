@@ -1,23 +1,20 @@
 -- Round after round: each leaves the slices as one more round of the exchange does.
-use mathlib.Core.Path.{_≡_, refl, sym, _∙_, ap, subst}
-use mathlib.Core.Bool.{false}
-use mathlib.Core.List.{List, _++_}
-use Prim.Native.Nat.{ℕ, suc, _+_, _-_, _*_, _≤_, _<_}
+use mathlib.Core.Path.{_≡_, refl, sym, _∙_, ap}
+use mathlib.Core.List.{_++_}
+use Prim.Native.Nat.{ℕ, suc, _+_, _*_, _≤_, _<_}
 use native.Mathlib.Omega.{arith}
 use native.Mathlib.Numerals.{add-one}
-use lib.ListN.{length, getD, take, drop, replicate}
+use lib.ListN.{length, getD, drop, replicate}
 use Rattle.std.proofs.shelf.Lists.{getD-append-left, getD-replicate, length-replicate}
 use Rattle.std.proofs.shelf.Parts.{drop-append-drop}
-use Rattle.std.specs.declared.result.Result.the-variants.{Ok}
 use Rattle.lists.specs.Format.{lists-of}
-use Rattle.lists.specs.Trade.{none-in, rounds, round-count}
+use Rattle.lists.specs.Trade.{rounds, round-count}
 use Rattle.lists.proofs.Positions.{count-of-lists}
 use Rattle.lists.proofs.Accepted.{some-traders}
 use Rattle.lists.proofs.theory.Exchange.{some-in-bound}
-use Rattle.rings.specs.Ring.{ring-flags}
 use Rattle.rounds.specs.Run.{outs-of}
 use Rattle.rounds.proofs.Taken.{Taken, still-bound, still-in, still-out, still-stays, bits-out, taken-more, taken-none, taken-stays}
-use Rattle.rounds.proofs.Stands.{Stands, flags-clear, going-end, going-more, going-start, marked-bits, nobody-left, results-end, somebody-left, stands-next, stands-start, work-end}
+use Rattle.rounds.proofs.Stands.{flags-clear, going-end, going-more, going-start, marked-bits, nobody-left, results-end, somebody-left, stands-next, stands-start, work-end}
 use Rattle.rounds.proofs.running.all_rounds.Needs as need
 
 pub rounds-holds : need.rounds-holds

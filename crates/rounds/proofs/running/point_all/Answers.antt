@@ -1,9 +1,9 @@
 use mathlib.Core.Path.{_≡_, refl, sym, _∙_, ap}
 use mathlib.Core.List.{[]}
-use Prim.Native.Nat.{_+_, _*_, _≤_, _<_}
+use Prim.Native.Nat.{_+_, _*_}
 use native.Mathlib.Omega.{arith}
 use lib.ListN.{length, getD}
-use Rattle.lists.specs.Format.{Begins, list-bytes, lists-of, next-start, number-at, numbers, start}
+use Rattle.lists.specs.Format.{Begins, lists-of, next-start, numbers, start}
 use Rattle.lists.proofs.Positions.{length-of-part, start-more}
 use Rattle.lists.proofs.Accepted.{begins-list, list-within}
 use Rattle.rounds.proofs.Pointed.{pointed-none, pointed-more, pointed-all}
