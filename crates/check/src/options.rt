@@ -30,7 +30,7 @@ pub enum Command {
     Papers(Files),
 }
 
-pub fn read_options(rt: &LibcRuntime) -> Result<Command, Ended> {
+pub(crate) fn read_options(rt: &LibcRuntime) -> Result<Command, Ended> {
     let mut papers = false;
     let mut first = None;
     let mut second = None;

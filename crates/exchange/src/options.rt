@@ -55,7 +55,7 @@ fn option_named(word: &str) -> Next {
     }
 }
 
-pub fn read_options(rt: &LibcRuntime) -> Result<Command, Ended> {
+pub(crate) fn read_options(rt: &LibcRuntime) -> Result<Command, Ended> {
     let (mut lists, mut sheet, mut pages, mut paper_bytes) = (None, None, None, None);
     let mut next = Next::Word;
     let mut words = env::args(rt)?;

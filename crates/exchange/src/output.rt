@@ -5,7 +5,7 @@ use console::EndedFromIo;
 use std::fs;
 
 // Writes a file beside the one named and then gives it that name, so that no half-written file ever has it.
-pub fn write_whole(rt: &LibcRuntime, name: &str, bytes: &[u8]) -> Result<(), Ended> {
+pub(crate) fn write_whole(rt: &LibcRuntime, name: &str, bytes: &[u8]) -> Result<(), Ended> {
     let beside = format!(rt.alloc(), "{name}.part")?;
     let written = match fs::write(rt, beside.as_str(), bytes) {
         Ok(()) => fs::rename(rt, beside.as_str(), name),

@@ -4,7 +4,8 @@ ghost use lib.ListN.{length};
 ghost use mathlib.Core.List.{_++_};
 ghost use mathlib.Core.Path.{_≡_};
 ghost use Rattle.lists.specs.Format.{bytes-of, encode-stands, list-bytes, lists-of, next-start, number-at, numbers, start, unless};
-ghost use Rattle.sheet.specs.Sheet.{round-in, stand-in};
+ghost use Rattle.sheet.specs.Sheet.{check-fault, round-in, stand-in};
+ghost use Rattle.std.specs.declared.option.Option.the-variants.{None};
 ghost use Rattle.papers.specs.Paper.{dearer-than, gone-bytes, left-by, paper-fault, paper-for, paper-of, ring-of, room-fault, trader-fault, written};
 use crate::bytes::dearer_count;
 use crate::bytes::number_at;
@@ -143,6 +144,22 @@ pub fn paper(bytes: &[u8], sheet: &[u8], trader: u16, out: &mut [u8]) -> Result<
     ensures out { λ r. ⌜ now (out .exit) ≡ left-by r (paper-of (lists-of (now (bytes .entry))) (now (sheet .entry)) trader) (now (out .entry)) ⌝ }
 {
     let n = check(bytes, sheet)?;
+    write_checked(bytes, sheet, n, trader, out)
+}
+
+// Writes the paper of a trader by lists and a sheet that were accepted.
+fn write_checked(
+    bytes: &[u8],
+    sheet: &[u8],
+    n: u16,
+    trader: u16,
+    out: &mut [u8],
+) -> Result<usize, Refusal>
+    requires accepted { ⌜ check-fault (now bytes) (now sheet) ≡ None ⌝ }
+    requires traders { ⌜ n ≡ number-at (now bytes) 0 ⌝ }
+    ensures answer { λ r. ⌜ r ≡ unless (paper-fault (now (bytes .entry)) (now (sheet .entry)) trader (length (now (out .entry)))) (length (paper-of (lists-of (now (bytes .entry))) (now (sheet .entry)) trader)) ⌝ }
+    ensures out { λ r. ⌜ now (out .exit) ≡ left-by r (paper-of (lists-of (now (bytes .entry))) (now (sheet .entry)) trader) (now (out .entry)) ⌝ }
+{
     known_trader(n, trader)?;
     write_for(sheet, n, trader, stands_of(bytes, trader), out)
 }

@@ -7,7 +7,7 @@ pub struct Chance {
 }
 
 impl Chance {
-    pub fn new(seed: u64) -> Chance {
+    pub(crate) fn new(seed: u64) -> Chance {
         Chance { state: seed }
     }
 
@@ -22,7 +22,7 @@ impl Chance {
     }
 
     // A number below the bound, and 0 where there is none.
-    pub fn below(&mut self, bound: u16) -> u16
+    pub(crate) fn below(&mut self, bound: u16) -> u16
         ensures { λ r. ⌜ (0 < bound → r < bound) ⌝ }
     {
         if bound == 0 {

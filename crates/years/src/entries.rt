@@ -10,7 +10,7 @@ pub struct Entry {
 }
 
 // The entries of a sheet.
-pub fn read_entries(heap: Global, sheet: &[u8]) -> Result<Vec<Entry>, AllocError> {
+pub(crate) fn read_entries(heap: Global, sheet: &[u8]) -> Result<Vec<Entry>, AllocError> {
     let mut entries = Vec::new(heap);
     for bytes in sheet.chunks_exact(4) {
         if let [a, b, c, d] = bytes {
@@ -23,7 +23,7 @@ pub fn read_entries(heap: Global, sheet: &[u8]) -> Result<Vec<Entry>, AllocError
 }
 
 // The sheet with these entries.
-pub fn write_entries(heap: Global, entries: &[Entry]) -> Result<Vec<u8>, AllocError> {
+pub(crate) fn write_entries(heap: Global, entries: &[Entry]) -> Result<Vec<u8>, AllocError> {
     let mut sheet = Vec::new(heap);
     for entry in entries.iter() {
         sheet.extend_from_slice(&entry.stand.to_le_bytes())?;
@@ -33,7 +33,11 @@ pub fn write_entries(heap: Global, entries: &[Entry]) -> Result<Vec<u8>, AllocEr
 }
 
 // The sheet in which one stand or round is changed to another value.
-pub fn damaged(heap: Global, sheet: &[u8], chance: &mut Chance) -> Result<Vec<Entry>, AllocError> {
+pub(crate) fn damaged(
+    heap: Global,
+    sheet: &[u8],
+    chance: &mut Chance,
+) -> Result<Vec<Entry>, AllocError> {
     let mut entries = read_entries(heap, sheet)?;
     let traders = (entries.len() & 0xffff) as u16;
     let at = chance.below(traders) as usize;
@@ -79,7 +83,11 @@ fn go_earlier(entries: &mut Vec<Entry>, trader: u16) -> Option<u16> {
 }
 
 // The sheet in which a trader and all on its ring went out a round earlier; None for those of the first round.
-pub fn earlier(heap: Global, sheet: &[u8], trader: u16) -> Result<Option<Vec<Entry>>, AllocError> {
+pub(crate) fn earlier(
+    heap: Global,
+    sheet: &[u8],
+    trader: u16,
+) -> Result<Option<Vec<Entry>>, AllocError> {
     let mut entries = read_entries(heap, sheet)?;
     let mut at = trader;
     for _ in 0..entries.len() {

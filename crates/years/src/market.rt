@@ -16,7 +16,7 @@ pub struct Year {
 
 impl Year {
     // The year with these lists.
-    pub fn of(heap: Global, lists: &[&[u16]]) -> Result<Year, AllocError> {
+    pub(crate) fn of(heap: Global, lists: &[&[u16]]) -> Result<Year, AllocError> {
         let mut all = Vec::new(heap);
         for list in lists.iter() {
             all.push(Vec::from_slice(heap, list)?)?;
@@ -25,7 +25,11 @@ impl Year {
     }
 
     // A year of that many traders with random lists.
-    pub fn random(heap: Global, traders: u16, chance: &mut Chance) -> Result<Year, AllocError> {
+    pub(crate) fn random(
+        heap: Global,
+        traders: u16,
+        chance: &mut Chance,
+    ) -> Result<Year, AllocError> {
         let mut lists = Vec::new(heap);
         for own in 0..traders {
             lists.push(random_list(heap, traders, own, chance)?)?;
@@ -33,11 +37,11 @@ impl Year {
         Ok(Year { lists })
     }
 
-    pub fn traders(&self) -> u16 {
+    pub(crate) fn traders(&self) -> u16 {
         (self.lists.len() & 0xffff) as u16
     }
 
-    pub fn list(&self, trader: u16) -> &[u16] {
+    pub(crate) fn list(&self, trader: u16) -> &[u16] {
         match self.lists.get(trader as usize) {
             Some(list) => list.as_slice(),
             None => &[],
@@ -45,7 +49,7 @@ impl Year {
     }
 
     // How many stands are dearer to a trader than a stand, if it is listed or the own one; one more for all others.
-    pub fn rank(&self, trader: u16, stand: u16) -> usize {
+    pub(crate) fn rank(&self, trader: u16, stand: u16) -> usize {
         let list = self.list(trader);
         for (place, listed) in list.iter().enumerate() {
             if *listed == stand {
@@ -60,19 +64,19 @@ impl Year {
     }
 
     // The bytes of a trader's list by itself.
-    pub fn list_bytes(&self, heap: Global, trader: u16) -> Result<Vec<u8>, AllocError> {
+    pub(crate) fn list_bytes(&self, heap: Global, trader: u16) -> Result<Vec<u8>, AllocError> {
         let mut bytes = Vec::new(heap);
         push_list(&mut bytes, self.list(trader))?;
         Ok(bytes)
     }
 
     // The bytes of the year.
-    pub fn bytes(&self, heap: Global) -> Result<Vec<u8>, AllocError> {
+    pub(crate) fn bytes(&self, heap: Global) -> Result<Vec<u8>, AllocError> {
         self.bytes_with(heap, 0, self.list(0))
     }
 
     // The bytes of the year in which a trader hands in another list.
-    pub fn bytes_with(
+    pub(crate) fn bytes_with(
         &self,
         heap: Global,
         trader: u16,
@@ -115,7 +119,7 @@ fn random_list(
 }
 
 // Every list that a trader could hand in: all ways to name some of the other stands in some order.
-pub fn all_lists(heap: Global, traders: u16, own: u16) -> Result<Vec<Vec<u16>>, AllocError> {
+pub(crate) fn all_lists(heap: Global, traders: u16, own: u16) -> Result<Vec<Vec<u16>>, AllocError> {
     let mut all = Vec::new(heap);
     all.push(Vec::new(heap))?;
     for at in 0..MOST_LISTS {

@@ -3,7 +3,7 @@ use crate::entries::Entry;
 use crate::market::Year;
 
 // The number and the place of the first fault, trader after trader; 0 and the number of traders where there is none.
-pub fn opinion(year: &Year, entries: &[Entry]) -> (u8, usize) {
+pub(crate) fn opinion(year: &Year, entries: &[Entry]) -> (u8, usize) {
     for trader in 0..year.traders() {
         if let Some(fault) = trader_fault(year, entries, trader) {
             return fault;

@@ -68,11 +68,11 @@ pub struct Tally {
 }
 
 impl Tally {
-    pub fn new() -> Tally {
+    pub(crate) fn new() -> Tally {
         Tally { counts: [0; 14] }
     }
 
-    pub fn add(&mut self, count: Count, by: u64) {
+    pub(crate) fn add(&mut self, count: Count, by: u64) {
         let at = count as usize;
         if at < self.counts.len() {
             self.counts[at] = self.counts[at].saturating_add(by);
@@ -90,7 +90,7 @@ impl Tally {
 }
 
 // Prints the table, a column for each tally and one for all.
-pub fn print_table(rt: &LibcRuntime, tallies: &[Tally]) -> io::Result<()> {
+pub(crate) fn print_table(rt: &LibcRuntime, tallies: &[Tally]) -> io::Result<()> {
     print_heads(rt)?;
     for count in LINES {
         print_line(rt, count, tallies)?;

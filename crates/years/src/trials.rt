@@ -43,7 +43,7 @@ pub struct Outcome {
 
 impl Outcome {
     // The results and the number of rounds are these.
-    pub fn is(&self, results: &[u16], rounds: u16) -> bool {
+    pub(crate) fn is(&self, results: &[u16], rounds: u16) -> bool {
         self.results.as_slice() == results && self.rounds == rounds
     }
 
@@ -57,7 +57,7 @@ impl Outcome {
 }
 
 // Runs the exchange for the bytes of a year; None where it refuses them.
-pub fn run(heap: Global, bytes: &[u8], traders: u16) -> Result<Option<Outcome>, AllocError> {
+pub(crate) fn run(heap: Global, bytes: &[u8], traders: u16) -> Result<Option<Outcome>, AllocError> {
     let n = traders as usize;
     let mut results = vec![in heap; UNWRITTEN; n]?;
     let mut sheet = vec![in heap; UNWRITTEN_BYTE; 4 * n]?;
@@ -78,7 +78,7 @@ pub fn run(heap: Global, bytes: &[u8], traders: u16) -> Result<Option<Outcome>, 
 }
 
 // Tries all that a year allows.
-pub fn try_year(
+pub(crate) fn try_year(
     heap: Global,
     year: &Year,
     chance: &mut Chance,
