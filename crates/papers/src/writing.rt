@@ -167,6 +167,9 @@ fn write_checked(
 #[cfg(test)]
 mod tests {
     use super::*;
+    use crate::checking::check_paper;
+    use lists::reading::list_at;
+    use sheet::exchanging::exchange;
     use std::test::*;
 
     // the lists 1 / 2 / 1 0, and the sheet for them
@@ -200,5 +203,49 @@ mod tests {
         check_eq(outcome(paper(&LISTS, &SHEET, 3, &mut out)), (10, 0))?;
         check_eq(outcome(paper(&LISTS, &SHEET, 0, &mut out)), (5, 0))?;
         check_eq(out, [9; 14])
+    }
+
+    // the paper of a trader passes with the trader's list
+    fn passes(bytes: &[u8], sheet: &[u8], trader: u16) -> bool {
+        let mut out = [0; 64];
+        let at = start_of(bytes, trader);
+        let Some(stands) = list_at(bytes, at) else {
+            return false;
+        };
+        let end = at.saturating_add(1).saturating_add(stands.len());
+        let Ok(size) = paper(bytes, sheet, trader, &mut out) else {
+            return false;
+        };
+        match (bytes.get(at..end), out.get(0..size)) {
+            (Some(list), Some(written)) => check_paper(list, written).is_ok(),
+            _ => false,
+        }
+    }
+
+    // how many papers of a year of at most 4 traders pass
+    fn passing(bytes: &[u8], n: u16) -> usize {
+        let mut sheet = [0; 16];
+        let _ = exchange(bytes, &mut [0; 4], &mut sheet, &mut [0; 12]);
+        let part = &sheet[0..4 * n.min(4) as usize];
+        let mut passed = 0usize;
+        for trader in 0..n {
+            if passes(bytes, part, trader) {
+                passed = passed.saturating_add(1);
+            }
+        }
+        passed
+    }
+
+    #[test]
+    fn papers_of_years_pass() -> Result<(), Fail> {
+        check_eq(
+            passing(&[3, 0, 2, 1, 0, 2, 0, 2, 2, 0, 0, 0, 2, 0, 0, 1, 0], 3),
+            3,
+        )?;
+        check_eq(passing(&[3, 0, 1, 1, 0, 1, 0, 0, 2, 0, 0, 1, 0], 3), 3)?;
+        check_eq(passing(&[2, 0, 0, 0], 2), 2)?;
+        check_eq(passing(&LISTS, 3), 3)?;
+        check_eq(passing(&[4, 0, 1, 1, 0, 1, 2, 0, 1, 3, 0, 1, 1, 0], 4), 4)?;
+        check_eq(passing(&[1, 0, 0], 1), 1)
     }
 }
