@@ -9,7 +9,7 @@ use lib.ListN.{length, drop, getD, length-drop}
 use Rattle.std.proofs.shelf.Lists.{drop-more}
 use Rattle.std.proofs.shelf.Tests.{eq-eqb, ne-eqb}
 use Rattle.lists.specs.Format.{number-at, numbers}
-use Rattle.lists.specs.Promise.{rank-in}
+use Rattle.theory.specs.Promise.{rank-in}
 
 -- the numbers from an even place on: one, and the others
 numbers-step : (xs : List ℕ) (p : ℕ) → 2 * p + 1 < length xs →

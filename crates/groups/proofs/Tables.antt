@@ -9,8 +9,8 @@ use lib.Dec.{leb}
 use lib.ListN.{length, getD, set}
 use Rattle.std.proofs.shelf.Lists.{getD-set-same, getD-set-other}
 use Rattle.std.proofs.shelf.Tests.{cases-eq, leb-true, le-leb}
-use Rattle.lists.specs.Promise.{rank, rank-in}
-use Rattle.lists.specs.Trade.{Lists}
+use Rattle.theory.specs.Promise.{rank, rank-in}
+use Rattle.theory.specs.Trade.{Lists}
 use Rattle.groups.specs.Groups.{Betters, stand-of}
 use Rattle.groups.specs.Sharings.{may, Right, Sharing}
 

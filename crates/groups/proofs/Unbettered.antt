@@ -1,8 +1,8 @@
 -- Where no group does better than the exchange, none betters its results.
 use Prim.Native.Nat.{ℕ}
 use mathlib.Core.Bool.{Bool}
-use Rattle.lists.specs.Promise.{Core, Proper}
-use Rattle.lists.specs.Trade.{Lists, result}
+use Rattle.theory.specs.Promise.{Core, Proper}
+use Rattle.theory.specs.Trade.{Lists, result}
 use Rattle.groups.specs.Groups.{Betters}
 
 pub nobody-betters : Core → (ls : Lists) → Proper ls → (group : ℕ → Bool) (share : ℕ → ℕ) → Betters ls (result ls) group share → ⊥

@@ -13,8 +13,8 @@ use Rattle.lists.specs.declared.refusals.Lent.the-variants.{Results}
 use Rattle.lists.specs.declared.refusals.Refusal.{Refusal}
 use Rattle.lists.specs.declared.refusals.Refusal.the-variants.{TooShort}
 use Rattle.lists.specs.Format.{fault, lists-of, number-at}
-use Rattle.lists.specs.Promise.{rank}
-use Rattle.lists.specs.Trade.{Lists}
+use Rattle.theory.specs.Promise.{rank}
+use Rattle.theory.specs.Trade.{Lists}
 use Rattle.groups.specs.declared.Answer.{Answer}
 use Rattle.groups.specs.declared.Answer.the-variants.{Bettered, Unbettered}
 use Rattle.groups.specs.declared.Unsearched.{Unsearched}

@@ -5,8 +5,8 @@ use mathlib.Core.List.{List}
 use Prim.Native.Nat.{ℕ, _+_, _*_, _<_}
 use lib.Dec.{leb}
 use lib.ListN.{length, getD}
-use Rattle.lists.specs.Promise.{rank}
-use Rattle.lists.specs.Trade.{Lists}
+use Rattle.theory.specs.Promise.{rank}
+use Rattle.theory.specs.Trade.{Lists}
 use Rattle.groups.specs.Groups.{in-group, stand-of}
 
 -- stand t may be given to trader i

@@ -9,7 +9,7 @@ ghost use mathlib.Core.Path.{_≡_};
 ghost use Rattle.std.specs.Options.{Cases as BySome};
 ghost use Rattle.std.specs.declared.option.Option.the-variants.{None};
 ghost use Rattle.lists.specs.Format.{fault, lists-of, number-at, numbers};
-ghost use Rattle.lists.specs.Promise.{rank-in};
+ghost use Rattle.theory.specs.Promise.{rank-in};
 ghost use Rattle.groups.specs.Groups.{Outcome, Right-answer, in-group, stand-of};
 ghost use Rattle.groups.specs.Sharings.{Brought, Differs, Hopeless, Right, Same, Sharing, Sound, Unbrought};
 use lists::reading::list_at;

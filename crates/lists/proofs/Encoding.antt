@@ -9,8 +9,8 @@ use lib.ListN.{length, getD, take, drop}
 use Rattle.std.proofs.shelf.Lists.{length-append, length-drop, getD-default, getD-drop, drop-drop, drop-more, drop-all, take-at, drop-at, take-append-drop}
 use Rattle.std.proofs.shelf.Tests.{and-from, le-ltb, lt-ltb}
 use Rattle.std.specs.declared.option.Option.the-variants.{None}
-use Rattle.lists.specs.Promise.{Distinct, Proper}
-use Rattle.lists.specs.Trade.{Lists}
+use Rattle.theory.specs.Promise.{Distinct, Proper}
+use Rattle.theory.specs.Trade.{Lists}
 use Rattle.lists.proofs.Faults.{may-list}
 use Rattle.lists.specs.Format.{number-at, numbers, list-bytes, next-start, lists-from, lists-of, list-fault, lists-fault, fault, Encodable, bytes-of, encode-stands, encode-lists, encode, Reads-what-was-written, Writes-what-was-read}
 use Rattle.lists.proofs.Faults.{listable}

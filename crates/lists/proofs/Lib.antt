@@ -2,4 +2,3 @@ pub mod Accepted
 pub mod Encoding
 pub mod Faults
 pub mod Positions
-pub mod theory

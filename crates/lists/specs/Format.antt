@@ -12,8 +12,8 @@ use Rattle.std.specs.declared.result.Result.{Result}
 use Rattle.std.specs.declared.result.Result.the-variants.{Ok, Err}
 use Rattle.lists.specs.declared.refusals.Refusal.{Refusal}
 use Rattle.lists.specs.declared.refusals.Refusal.the-variants.{WrongLength, WrongCount, LongList, WrongStand}
-use Rattle.lists.specs.Promise.{Proper}
-use Rattle.lists.specs.Trade.{Lists}
+use Rattle.theory.specs.Promise.{Proper}
+use Rattle.theory.specs.Trade.{Lists}
 
 -- the two-byte number whose first byte is byte p
 abbrev pub number-at : List ℕ → ℕ → ℕ

@@ -2,4 +2,3 @@
 pub mod laws;
 pub mod reading;
 pub mod refusals;
-pub mod theorems;

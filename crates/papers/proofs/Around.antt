@@ -8,8 +8,8 @@ use native.Mathlib.Omega.{arith}
 use lib.Dec.{eqb}
 use lib.ListN.{length, getD}
 use Rattle.std.proofs.shelf.Tests.{cases-bool, eq-eqb, ne-eqb}
-use Rattle.lists.specs.Certificate.{steps}
-use Rattle.lists.proofs.theory.Finite.{steps-out}
+use Rattle.theory.specs.Certificate.{steps}
+use Rattle.theory.proofs.Finite.{steps-out}
 use Rattle.sheet.specs.Sheet.{stand-in}
 use Rattle.papers.specs.Paper.{ring-from}
 

@@ -8,8 +8,8 @@ use native.Mathlib.Omega.{arith}
 use lib.Dec.{eqb, ltb}
 use lib.ListN.{length, getD}
 use Rattle.std.proofs.shelf.Tests.{both-ways, cases-lt, cases-order, eq-eqb, eqb-true, lt-ltb, ltb-true}
-use Rattle.lists.specs.Certificate.{steps}
-use Rattle.lists.proofs.theory.Finite.{Turning, least-true, orbit, returns-back, steps-add, steps-swap}
+use Rattle.theory.specs.Certificate.{steps}
+use Rattle.theory.proofs.Finite.{Turning, least-true, orbit, returns-back, steps-add, steps-swap}
 use Rattle.sheet.specs.Sheet.{stand-in}
 use Rattle.papers.specs.Paper.{ring-from, ring-of}
 use Rattle.papers.proofs.Around.{ring-steps}

@@ -12,7 +12,7 @@ use Rattle.std.proofs.shelf.Tests.{and-from, and-parts, cases-bool, cases-eq, e
 use Rattle.std.specs.declared.option.Option.{Option}
 use Rattle.std.specs.declared.option.Option.the-variants.{None}
 use Rattle.lists.specs.declared.refusals.Refusal.{Refusal}
-use Rattle.lists.specs.Certificate.{steps}
+use Rattle.theory.specs.Certificate.{steps}
 use Rattle.lists.specs.Format as format
 use Rattle.lists.specs.Format.{encode-stands, list-bytes, lists-of, member, number-at, numbers, or-else, start}
 use Rattle.lists.proofs.Accepted.{all-may, good-numbers, list-good, list-good-at, no-fault-both}

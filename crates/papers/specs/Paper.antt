@@ -13,7 +13,7 @@ use Rattle.lists.specs.declared.refusals.Lent.the-variants.{Results}
 use Rattle.lists.specs.declared.refusals.Refusal.{Refusal}
 use Rattle.lists.specs.declared.refusals.Refusal.the-variants.{PaperFault, TooShort}
 use Rattle.lists.specs.Format.{bytes-of, encode-stands, lists-of, number-at, or-else}
-use Rattle.lists.specs.Trade.{Lists}
+use Rattle.theory.specs.Trade.{Lists}
 use Rattle.sheet.specs.Sheet.{check-fault, round-in, stand-in}
 
 -- ---- what stands on a paper, by the bytes

@@ -7,9 +7,9 @@ use Prim.Native.Nat.{ℕ, suc, _+_, _*_, _<_}
 use lib.Dec.{eqb}
 use lib.ListN.{length, getD, take, drop}
 use Rattle.std.specs.declared.option.Option.the-variants.{None}
-use Rattle.lists.specs.Certificate.{Valid-sheet}
+use Rattle.theory.specs.Certificate.{Valid-sheet}
 use Rattle.lists.specs.Format.{Encodable, encode-stands, fault, lists-of, number-at, start}
-use Rattle.lists.specs.Trade.{Lists, result}
+use Rattle.theory.specs.Trade.{Lists, result}
 use Rattle.sheet.specs.Sheet.{sheet-fault, sheet-of}
 use Rattle.papers.specs.Faults.{paper-check-fault}
 use Rattle.papers.specs.Paper.{count-on, gone-on, holder-on, own-on, paper-of, ring-length, ring-on, round-on, stand-on}

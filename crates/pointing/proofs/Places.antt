@@ -11,7 +11,7 @@ use lib.ListN.{length, getD, drop, length-drop}
 use Rattle.std.proofs.shelf.Tests.{cases-bool}
 use Rattle.std.proofs.shelf.Lists.{drop-more}
 use Rattle.lists.specs.Format.{number-at, numbers}
-use Rattle.lists.specs.Trade.{Standing, is-in, first-in}
+use Rattle.theory.specs.Trade.{Standing, is-in, first-in}
 use Rattle.pointing.specs.declared.Pointing.{Pointing}
 use Rattle.pointing.specs.declared.Pointing.the-variants.{Listed, Own}
 use Rattle.pointing.specs.Pointing.{points-from, stand-of, First-at, Is-first, First-is-pointed-to}

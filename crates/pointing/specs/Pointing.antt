@@ -5,7 +5,7 @@ use mathlib.Core.List.{List, [], _∷_}
 use Prim.Native.Nat.{ℕ, suc, _<_}
 use lib.Dec.{eqb}
 use lib.ListN.{length, getD}
-use Rattle.lists.specs.Trade.{Standing, is-in, first-in}
+use Rattle.theory.specs.Trade.{Standing, is-in, first-in}
 use Rattle.pointing.specs.declared.Pointing.{Pointing}
 use Rattle.pointing.specs.declared.Pointing.the-variants.{Listed, Own}
 

@@ -10,7 +10,7 @@ use lib.ListN.{length, getD}
 use Rattle.std.proofs.shelf.Lists.{getD-past, getD-default}
 use Rattle.std.proofs.shelf.Counted.{getD-map-counting, length-map-counting}
 use Rattle.std.proofs.shelf.Tests.{cases-bool, cases-lt, lt-ltb, le-ltb, ne-eqb, both-ways}
-use Rattle.lists.specs.Trade.{Lists, Standing, is-in, first-in, points, walk, comes-back, on-ring}
+use Rattle.theory.specs.Trade.{Lists, Standing, is-in, first-in, points, walk, comes-back, on-ring}
 use Rattle.rings.specs.Ring.{step, walk-along, back, on-ring-of, flag, ring-flags, answer}
 use Rattle.std.specs.declared.result.Result.the-variants.{Ok}
 

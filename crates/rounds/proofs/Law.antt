@@ -6,7 +6,7 @@ use native.Mathlib.Omega.{arith}
 use lib.ListN.{length, getD, replicate}
 use Rattle.std.proofs.shelf.Lists.{getD-append-left, getD-append-right, length-replicate}
 use Rattle.std.proofs.shelf.Counted.{getD-map-counting, length-map-counting}
-use Rattle.lists.specs.Trade.{Lists, result, out}
+use Rattle.theory.specs.Trade.{Lists, result, out}
 use Rattle.rounds.specs.Run.{results-of, outs-of}
 
 module _ (ls : Lists) (rest : List ℕ) (i : ℕ) (below : i < length ls) where

@@ -10,7 +10,7 @@ use lib.ListN.{length, getD, set, take}
 use Rattle.std.proofs.shelf.Tests.{cases-bool, cases-lt, cases-eq}
 use Rattle.std.proofs.shelf.Lists.{getD-past, getD-take, getD-set-same, getD-set-other, length-set, length-take-le}
 use Rattle.lists.specs.Format.{numbers}
-use Rattle.lists.specs.Trade.{Lists}
+use Rattle.theory.specs.Trade.{Lists}
 use Rattle.pointing.specs.Pointing.{points-from, stand-of}
 use Rattle.rounds.specs.Turn.{All-pointed, one-pointed, pointed-at}
 

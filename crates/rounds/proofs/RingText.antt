@@ -9,10 +9,10 @@ use lib.Dec.{eqb, ltb}
 use lib.ListN.{length, getD}
 use Rattle.std.proofs.shelf.Lists.{getD-default}
 use Rattle.std.proofs.shelf.Tests.{cases-order, eqb-true, eqb-false, eq-eqb, ne-eqb, ltb-true, lt-ltb}
-use Rattle.lists.specs.Certificate.{steps}
-use Rattle.lists.specs.Trade.{Lists, result}
-use Rattle.lists.proofs.theory.Finite.{Turning, stays, orbit, least-true, steps-add}
-use Rattle.lists.proofs.theory.Promises.{result-below, result-apart}
+use Rattle.theory.specs.Certificate.{steps}
+use Rattle.theory.specs.Trade.{Lists, result}
+use Rattle.theory.proofs.Finite.{Turning, stays, orbit, least-true, steps-add}
+use Rattle.theory.proofs.Promises.{result-below, result-apart}
 use Rattle.rounds.proofs.Texts.{ring-on-more}
 use Rattle.rounds.specs.Report.{stand-got, ring-on, ring-from, Ring, RingWritten}
 

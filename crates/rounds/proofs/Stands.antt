@@ -11,9 +11,9 @@ use Rattle.std.specs.declared.result.Result.the-variants.{Ok}
 use Rattle.std.proofs.shelf.Tests.{cases-bool, cases-lt, cond-true, cond-false, both-ways}
 use Rattle.std.proofs.shelf.Lists.{ext-getD, getD-take, getD-drop, getD-replicate, getD-append-left, getD-append-right, length-append, length-drop, length-replicate, length-take-le}
 use Rattle.std.proofs.shelf.Counted.{getD-map-counting, length-map-counting}
-use Rattle.lists.specs.Trade.{Lists, is-in, points, on-ring, rounds, all-in, result, out, none-in, count-from, round-count}
-use Rattle.lists.proofs.theory.Walks.{none-in-all, none-in-from, none-in-false, out-past, ring-in}
-use Rattle.lists.proofs.theory.Exchange.{rounds-start, rounds-inside-length, rounds-inside-next, rounds-inside-bits, all-in-in, ring-out, ring-got, count-start, count-more, count-end, some-in-bound}
+use Rattle.theory.specs.Trade.{Lists, is-in, points, on-ring, rounds, all-in, result, out, none-in, count-from, round-count}
+use Rattle.theory.proofs.Walks.{none-in-all, none-in-from, none-in-false, out-past, ring-in}
+use Rattle.theory.proofs.Exchange.{rounds-start, rounds-inside-length, rounds-inside-next, rounds-inside-bits, all-in-in, ring-out, ring-got, count-start, count-more, count-end, some-in-bound}
 use Rattle.pointing.specs.Pointing.{points-from, stand-of}
 use Rattle.pointing.proofs.Places.{exchange-points}
 use Rattle.rings.specs.Ring.{ring-flags, left-by}

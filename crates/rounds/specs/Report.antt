@@ -7,7 +7,7 @@ use lib.Chars.{codes}
 use lib.Dec.{eqb}
 use lib.ListN.{length, getD, take}
 use Rattle.std.specs.Written.{decimal}
-use Rattle.lists.specs.Trade.{Lists, result}
+use Rattle.theory.specs.Trade.{Lists, result}
 
 -- the stand that trader i has got; a number past the last trader's gets nothing and stays what it is
 abbrev pub stand-got : List ℕ → ℕ → ℕ

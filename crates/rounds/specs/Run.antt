@@ -13,7 +13,7 @@ use Rattle.lists.specs.declared.refusals.Lent.the-variants.{Results, Work}
 use Rattle.lists.specs.declared.refusals.Refusal.{Refusal}
 use Rattle.lists.specs.declared.refusals.Refusal.the-variants.{TooShort}
 use Rattle.lists.specs.Format.{fault, number-at, or-else}
-use Rattle.lists.specs.Trade.{Lists, result, out, round-count}
+use Rattle.theory.specs.Trade.{Lists, result, out, round-count}
 use Rattle.rounds.specs.declared.running.Exchanged.{Exchanged}
 
 -- the stands that all traders have at the end, in the order of their numbers

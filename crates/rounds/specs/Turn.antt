@@ -6,7 +6,7 @@ use Prim.Native.Nat.{ℕ, _+_, _*_}
 use lib.Dec.{eqb}
 use lib.ListN.{length, getD, set, take}
 use Rattle.lists.specs.Format.{numbers}
-use Rattle.lists.specs.Trade.{Lists}
+use Rattle.theory.specs.Trade.{Lists}
 use Rattle.pointing.specs.Pointing.{points-from, stand-of}
 
 -- trader i's flag says that it is on a ring

@@ -15,13 +15,13 @@ use Rattle.std.specs.declared.result.Result.{Result}
 use Rattle.std.specs.declared.result.Result.the-variants.{Ok}
 use Rattle.lists.specs.declared.refusals.Refusal.{Refusal}
 use Rattle.lists.specs.Format.{fault, lists-of, number-at, unless}
-use Rattle.lists.specs.Promise.{Distinct, Proper, rank-in, rank}
-use Rattle.lists.specs.Trade.{Lists}
-use Rattle.lists.specs.Statements.{Valid-sheet-is-the-result}
+use Rattle.theory.specs.Promise.{Distinct, Proper, rank-in, rank}
+use Rattle.theory.specs.Trade.{Lists}
+use Rattle.theory.specs.Statements.{Valid-sheet-is-the-result}
 use Rattle.lists.proofs.Accepted.{no-fault-both, accepted-proper}
 use Rattle.lists.proofs.Faults.{no-fault, refused-fault}
 use Rattle.lists.proofs.Positions.{count-of-lists}
-use Rattle.lists.proofs.theory.Results.{valid-sheet-is-the-result}
+use Rattle.theory.proofs.Results.{valid-sheet-is-the-result}
 use Rattle.sheet.specs.Check.{Checked}
 use Rattle.sheet.specs.Sheet.{stand-in, round-in, got-before, dearer-fault, trader-fault, traders-fault, length-fault, sheet-fault, check-fault, Valid, Accepts-exactly}
 

@@ -12,14 +12,14 @@ use Rattle.std.proofs.shelf.Tests.{lt-ltb, ltb-true}
 use Rattle.std.proofs.shelf.Lists.{getD-append-left, set-getD, length-replicate, drop-at}
 use Rattle.std.proofs.shelf.Counted.{length-map-counting}
 use Rattle.lists.specs.Format.{bytes-of, fault, lists-of, number-at}
-use Rattle.lists.specs.Promise.{Proper, rank}
-use Rattle.lists.specs.Trade.{Lists, out, result}
+use Rattle.theory.specs.Promise.{Proper, rank}
+use Rattle.theory.specs.Trade.{Lists, out, result}
 use Rattle.lists.proofs.Accepted.{accepted-proper}
 use Rattle.lists.proofs.Encoding.{writes-what-was-read}
-use Rattle.lists.proofs.theory.Certificates.{turns}
-use Rattle.lists.proofs.theory.Exchange.{certificate}
-use Rattle.lists.proofs.theory.Finite.{preimage}
-use Rattle.lists.proofs.theory.Promises.{rank-set-same, result-apart, result-below, result-own, result-truthful, result-unbettered}
+use Rattle.theory.proofs.Certificates.{turns}
+use Rattle.theory.proofs.Exchange.{certificate}
+use Rattle.theory.proofs.Finite.{preimage}
+use Rattle.theory.proofs.Promises.{rank-set-same, result-apart, result-below, result-own, result-truthful, result-unbettered}
 use Rattle.rounds.proofs.Law.{out-at, result-at}
 use Rattle.rounds.specs.Run.{outs-of, results-of}
 use Rattle.sheet.specs.Exchange.{Promised, entries}

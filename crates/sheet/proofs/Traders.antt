@@ -14,8 +14,8 @@ use Rattle.std.specs.declared.option.Option.{Option}
 use Rattle.std.specs.declared.option.Option.the-variants.{Some, None}
 use Rattle.lists.specs.declared.refusals.Refusal.{Refusal}
 use Rattle.lists.specs.Format.{fault, list-bytes, lists-of, next-start, number-at, numbers, or-else, start}
-use Rattle.lists.specs.Promise.{Distinct}
-use Rattle.lists.specs.Trade.{Lists}
+use Rattle.theory.specs.Promise.{Distinct}
+use Rattle.theory.specs.Trade.{Lists}
 use Rattle.lists.proofs.Accepted.{list-distinct, list-within, no-fault-both, short-list}
 use Rattle.lists.proofs.Faults.{no-marks}
 use Rattle.lists.proofs.Positions.{count-of-lists, length-of-part, list-is, numbers-at, numbers-length}

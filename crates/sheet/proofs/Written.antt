@@ -7,16 +7,16 @@ use lib.ListN.{length, getD}
 use Rattle.std.specs.Iters.{counting}
 use Rattle.std.specs.Joined.{joined}
 use Rattle.std.specs.declared.option.Option.the-variants.{None}
-use Rattle.lists.specs.Certificate.{Valid-sheet}
+use Rattle.theory.specs.Certificate.{Valid-sheet}
 use Rattle.lists.specs.Format.{number-at}
-use Rattle.lists.specs.Promise.{Proper}
-use Rattle.lists.specs.Statements.{Own-sheet-valid}
-use Rattle.lists.specs.Trade.{Lists, all-in, out, result}
+use Rattle.theory.specs.Promise.{Proper}
+use Rattle.theory.specs.Statements.{Own-sheet-valid}
+use Rattle.theory.specs.Trade.{Lists, all-in, out, result}
 use Rattle.lists.proofs.Encoding.{number-of-bytes, reads-what-was-written}
-use Rattle.lists.proofs.theory.Exchange.{all-in-sized, all-in-in}
-use Rattle.lists.proofs.theory.Rounds.{out-bound}
-use Rattle.lists.proofs.theory.Promises.{result-below}
-use Rattle.lists.proofs.theory.Results.{own-sheet-valid}
+use Rattle.theory.proofs.Exchange.{all-in-sized, all-in-in}
+use Rattle.theory.proofs.Rounds.{out-bound}
+use Rattle.theory.proofs.Promises.{result-below}
+use Rattle.theory.proofs.Results.{own-sheet-valid}
 use Rattle.sheet.specs.Sheet.{stand-in, round-in, entry, sheet-of, sheet-fault, Valid, Accepts-what-was-written}
 use Rattle.sheet.proofs.Checked.{valid-accepted}
 

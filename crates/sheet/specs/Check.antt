@@ -7,8 +7,8 @@ use Rattle.std.specs.declared.result.Result.{Result}
 use Rattle.std.specs.declared.result.Result.the-variants.{Ok, Err}
 use Rattle.lists.specs.declared.refusals.Refusal.{Refusal}
 use Rattle.lists.specs.Format.{fault, lists-of}
-use Rattle.lists.specs.Promise.{Proper}
-use Rattle.lists.specs.Trade.{result}
+use Rattle.theory.specs.Promise.{Proper}
+use Rattle.theory.specs.Trade.{result}
 use Rattle.sheet.specs.Sheet.{Valid, stand-in}
 
 -- What is known of the bytes of a year and of a sheet for it, once a check has answered r.

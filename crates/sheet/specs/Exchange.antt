@@ -15,8 +15,8 @@ use Rattle.lists.specs.declared.refusals.Lent.the-variants.{Results, Sheet, Wor
 use Rattle.lists.specs.declared.refusals.Refusal.{Refusal}
 use Rattle.lists.specs.declared.refusals.Refusal.the-variants.{TooShort}
 use Rattle.lists.specs.Format.{bytes-of, encode, fault, lists-of, number-at, or-else}
-use Rattle.lists.specs.Promise.{Proper, rank}
-use Rattle.lists.specs.Trade.{Lists, out, result}
+use Rattle.theory.specs.Promise.{Proper, rank}
+use Rattle.theory.specs.Trade.{Lists, out, result}
 use Rattle.sheet.specs.Sheet.{round-in, sheet-of, stand-in}
 
 -- The promise, whole: about the lists that the bytes bs encode, the results and the sheet that were written.

@@ -12,10 +12,10 @@ use Rattle.std.specs.declared.option.Option.{Option}
 use Rattle.std.specs.declared.option.Option.the-variants.{Some, None}
 use Rattle.lists.specs.declared.refusals.Refusal.{Refusal}
 use Rattle.lists.specs.declared.refusals.Refusal.the-variants.{SheetLength, StandTaken, DearerLater, HolderElsewhere}
-use Rattle.lists.specs.Certificate.{Valid-sheet}
+use Rattle.theory.specs.Certificate.{Valid-sheet}
 use Rattle.lists.specs.Format.{Encodable, bytes-of, encode, fault, lists-of, number-at, or-else}
-use Rattle.lists.specs.Promise.{Proper}
-use Rattle.lists.specs.Trade.{Lists, out, result}
+use Rattle.theory.specs.Promise.{Proper}
+use Rattle.theory.specs.Trade.{Lists, out, result}
 
 -- the stand that trader i got, and the round in which it went out
 abbrev pub stand-in : List ℕ → ℕ → ℕ

@@ -2,7 +2,7 @@ use Prim.Native.Nat.{_+_, _*_}
 use mathlib.Core.Path.{_≡_}
 use lib.ListN.{drop}
 use Rattle.lists.specs.Format.{numbers}
-use Rattle.lists.specs.Promise.{rank-in}
+use Rattle.theory.specs.Promise.{rank-in}
 use Rattle.groups.proofs.Ranks.{Step}
 use Rattle.groups.proofs.rank_of.Given as given
 

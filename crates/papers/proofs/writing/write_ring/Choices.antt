@@ -1,7 +1,7 @@
 use Prim.Native.Nat.{_<_}
 use mathlib.Core.Path.{_≡_}
 use lib.ListN.{take}
-use Rattle.lists.specs.Certificate.{steps}
+use Rattle.theory.specs.Certificate.{steps}
 use Rattle.lists.specs.Format.{encode-stands}
 use Rattle.sheet.specs.Sheet.{stand-in}
 use Rattle.papers.specs.Paper.{ring-of, written}

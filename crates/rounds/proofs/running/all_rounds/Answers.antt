@@ -8,10 +8,10 @@ use lib.ListN.{length, getD, drop, replicate}
 use Rattle.std.proofs.shelf.Lists.{getD-append-left, getD-replicate, length-replicate}
 use Rattle.std.proofs.shelf.Parts.{drop-append-drop}
 use Rattle.lists.specs.Format.{lists-of}
-use Rattle.lists.specs.Trade.{rounds, round-count}
+use Rattle.theory.specs.Trade.{rounds, round-count}
 use Rattle.lists.proofs.Positions.{count-of-lists}
 use Rattle.lists.proofs.Accepted.{some-traders}
-use Rattle.lists.proofs.theory.Exchange.{some-in-bound}
+use Rattle.theory.proofs.Exchange.{some-in-bound}
 use Rattle.rounds.specs.Run.{outs-of}
 use Rattle.rounds.proofs.Taken.{Taken, still-bound, still-in, still-out, still-stays, bits-out, taken-more, taken-none, taken-stays}
 use Rattle.rounds.proofs.Stands.{flags-clear, going-end, going-more, going-start, marked-bits, nobody-left, results-end, somebody-left, stands-next, stands-start, work-end}

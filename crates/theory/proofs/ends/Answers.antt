@@ -1,0 +1,5 @@
+use Rattle.theory.proofs.Promises.{ends}
+use Rattle.theory.proofs.ends.Needs as need
+
+pub returns : need.returns
+returns c = ends
