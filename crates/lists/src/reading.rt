@@ -9,21 +9,12 @@ ghost use Rattle.std.specs.declared.option.Option.the-variants.{Some, None};
 ghost use Rattle.std.specs.Options.{Cases as BySome};
 ghost use Rattle.std.specs.Results.{Cases as ByOk};
 ghost use Rattle.lists.specs.Format.{count-fault, end-fault, fault, length-fault, list-bytes, lists-fault, next-start, number-at, stand-fault, stands-fault, start, unless};
+use crate::bytes::number_in;
 use crate::refusals::Refusal;
 
 const MOST_TRADERS: u16 = 4000;
 
 const MOST_STANDS: u8 = 40;
-
-// The two-byte number whose first byte is byte `at`; None where the bytes end before it does.
-fn number_in(bytes: &[u8], at: usize) -> Option<u16>
-    ensures { λ r. ⌜ r ≡ cond (ltb (length (now (bytes .entry))) (at + 2)) None (Some (number-at (now (bytes .entry)) at)) ⌝ }
-{
-    if bytes.len() < 2 || at > bytes.len() - 2 {
-        return None;
-    }
-    Some(u16::from_le_bytes([bytes[at], bytes[at + 1]]))
-}
 
 // The number of traders.
 fn read_count(bytes: &[u8]) -> Result<u16, Refusal>
