@@ -54,22 +54,25 @@ module _ (n own t : ℕ) (before : List ℕ) where
   listable h o m = grind arith
 
 -- the marks of the stands of one list: one more
-pub marks-more : (seen : List ℕ) (own t : ℕ) (before : List ℕ) → t < length seen →
-    ((u : ℕ) → eqb (getD seen u 0) (own + 1) ≡ member u before) →
-    (u : ℕ) → eqb (getD (set seen t (own + 1)) u 0) (own + 1) ≡ member u (t ∷ before)
-marks-more seen own t before h m u =
-    elim (cases-eq u t) [
-      | inl e ↦ let same = getD-set-same seen t (own + 1) 0 h in grind arith
-      | inr ne ↦ let other = getD-set-other seen t u (own + 1) 0 ne in let mu = m u in grind arith
-    ]
+module _ (seen : List ℕ) (mark t : ℕ) (below : t < length seen) where
+  pub marks-more : (before : List ℕ) → ((u : ℕ) → eqb (getD seen u 0) mark ≡ member u before) →
+      (u : ℕ) → eqb (getD (set seen t mark) u 0) mark ≡ member u (t ∷ before)
+  marks-more before m u =
+      elim (cases-eq u t) [
+        | inl e ↦ let same = getD-set-same seen t mark 0 below in grind arith
+        | inr ne ↦ let other = getD-set-other seen t u mark 0 ne in let mu = m u in grind arith
+      ]
 
-pub marks-bound : (seen : List ℕ) (own t : ℕ) → t < length seen → ((u : ℕ) → getD seen u 0 ≤ own + 1) →
-    (u : ℕ) → getD (set seen t (own + 1)) u 0 ≤ own + 1
-marks-bound seen own t h m u =
-    elim (cases-eq u t) [
-      | inl e ↦ let same = getD-set-same seen t (own + 1) 0 h in grind arith
-      | inr ne ↦ let other = getD-set-other seen t u (own + 1) 0 ne in let mu = m u in grind arith
-    ]
+  pub marks-bound : ((u : ℕ) → getD seen u 0 ≤ mark) → (u : ℕ) → getD (set seen t mark) u 0 ≤ mark
+  marks-bound m u =
+      elim (cases-eq u t) [
+        | inl e ↦ let same = getD-set-same seen t mark 0 below in grind arith
+        | inr ne ↦ let other = getD-set-other seen t u mark 0 ne in let mu = m u in grind arith
+      ]
+
+-- smaller marks are those of lists before
+pub marks-none : (seen : List ℕ) (mark : ℕ) → ((u : ℕ) → getD seen u 0 < mark) → (u : ℕ) → eqb (getD seen u 0) mark ≡ member u []
+marks-none seen mark m u = let less = m u in ne-eqb (getD seen u 0) mark (λ e. omega arith)
 
 -- one list, and the end of all lists
 module _ (bs : List ℕ) (n own left p : ℕ) (whole : Option Refusal) (so-far : lists-fault bs n own left p ≡ whole) where

@@ -5,7 +5,7 @@ use Prim.Native.Nat.{ℕ, zero, suc, _+_, _*_, _≤_, _<_}
 use native.Mathlib.Numerals.{add-one}
 use native.Mathlib.Omega.{arith}
 use lib.ListN.{length, getD, take, drop}
-use Rattle.std.proofs.shelf.Lists.{drop-more, take-all, length-drop, length-take-le}
+use Rattle.std.proofs.shelf.Lists.{drop-more, drop-all, take-all, length-drop, length-take-le}
 use Rattle.lists.specs.Format.{start, next-start, number-at, numbers, list-bytes, lists-from, lists-of}
 
 pub start-more : (bs : List ℕ) (i : ℕ) → start bs (i + 1) ≡ next-start bs (start bs i)
@@ -34,6 +34,21 @@ two-bytes bs p h =
     let next′ : drop (p + 1) bs ≡ getD bs (p + 1) 0 ∷ drop (p + 2) bs = rw on at next in
     one ∙ ap (_∷_ (getD bs p 0)) next′
 
+-- the numbers from an even place on: one, and the others
+pub numbers-step : (xs : List ℕ) (p : ℕ) → 2 * p + 1 < length xs →
+    numbers (drop (2 * p) xs) ≡ number-at xs (2 * p) ∷ numbers (drop (2 * (p + 1)) xs)
+unfolding numbers
+numbers-step xs p h =
+    let on : 2 * p + 2 ≡ 2 * (p + 1) = omega arith in
+    ap numbers (two-bytes xs (2 * p) (omega arith)) ∙ rw on
+
+-- fewer than two bytes give no number
+pub numbers-none : (xs : List ℕ) → length xs < 2 → numbers xs ≡ []
+unfolding numbers
+numbers-none [] h = refl
+numbers-none (x ∷ []) h = refl
+numbers-none (x ∷ y ∷ xs) h = absurd (omega arith)
+
 -- a part of the bytes that holds k numbers, read as numbers
 pub numbers-are : (bs : List ℕ) (k p : ℕ) → p + 2 * k ≤ length bs → numbers (take (2 * k) (drop p bs)) ≡ numbers-from bs k p
 unfolding numbers
@@ -57,6 +72,13 @@ pub length-of-part : (bs : List ℕ) (p : ℕ) → next-start bs p ≤ length bs
 length-of-part bs p h =
     let left = length-drop (p + 1) bs in
     length-take-le (2 * getD bs p 0) (drop (p + 1) bs) (omega arith)
+
+-- where bytes are missing, the part is what is there
+pub part-past : (bs : List ℕ) (p : ℕ) → length bs ≤ p → list-bytes bs p ≡ []
+part-past bs p h = ap (take (2 * getD bs p 0)) (drop-all (p + 1) bs (omega arith)) ∙ take-all (2 * getD bs p 0) [] (omega arith)
+
+pub part-short : (bs : List ℕ) (p : ℕ) → length bs < next-start bs p → list-bytes bs p ≡ drop (p + 1) bs
+part-short bs p h = let left = length-drop (p + 1) bs in take-all (2 * getD bs p 0) (drop (p + 1) bs) (omega arith)
 
 -- the lists, one for each trader
 pub count-from : (bs : List ℕ) (k p : ℕ) → length (lists-from bs k p) ≡ k

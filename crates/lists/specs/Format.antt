@@ -92,6 +92,12 @@ unfoldable pub lists-fault : List ℕ → ℕ → ℕ → ℕ → ℕ → Option
 lists-fault bs n own zero p = end-fault bs p
 lists-fault bs n own (suc k) p = or-else (list-fault bs n own p) (lists-fault bs n (suc own) k (next-start bs p))
 
+-- The first fault of one trader's list by itself: its count, its stands, and what follows them, as in a year of 4,000 traders,
+-- the most there can be.
+abbrev pub own-list-fault : List ℕ → ℕ → Option Refusal
+own-list-fault list own =
+    or-else (length-fault list 0) (or-else (stands-fault list 4000 own [] (getD list 0 0) 1) (end-fault list (next-start list 0)))
+
 -- The first fault of the bytes of a year, from front to back; None where they are accepted.
 abbrev pub fault : List ℕ → Option Refusal
 fault bs = or-else (count-fault bs) (lists-fault bs (number-at bs 0) 0 (number-at bs 0) 2)

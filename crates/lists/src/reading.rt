@@ -8,7 +8,7 @@ ghost use mathlib.Core.Path.{_≡_};
 ghost use Rattle.std.specs.declared.option.Option.the-variants.{Some, None};
 ghost use Rattle.std.specs.Options.{Cases as BySome};
 ghost use Rattle.std.specs.Results.{Cases as ByOk};
-ghost use Rattle.lists.specs.Format.{count-fault, end-fault, fault, length-fault, list-bytes, lists-fault, next-start, number-at, stand-fault, stands-fault, start, unless};
+ghost use Rattle.lists.specs.Format.{count-fault, end-fault, fault, length-fault, list-bytes, lists-fault, next-start, number-at, own-list-fault, stand-fault, stands-fault, start, unless};
 use crate::bytes::number_in;
 use crate::refusals::Refusal;
 
@@ -43,23 +43,30 @@ fn read_length(bytes: &[u8], at: usize) -> Result<u8, Refusal>
     Ok(count)
 }
 
-// The stand at byte `at` of trader own's list. `seen` has own + 1 at the stands that this list has named before, so that a
-// look at one entry tells a stand named twice.
-fn read_stand(bytes: &[u8], n: u16, own: u16, at: usize, seen: &[u16]) -> Result<u16, Refusal>
-    requires { ⌜ own < n ⌝ ∗ ⌜ n ≤ length (now seen) ⌝ }
-    ensures { λ r. ⌜ r ≡ unless (stand-fault (now (bytes .entry)) n own at (eqb (getD (now (seen .entry)) (number-at (now (bytes .entry)) at) 0) (own + 1))) (number-at (now (bytes .entry)) at) ⌝ }
+// The stand at byte `at` of trader own's list. `seen` has `mark` at the stands that this list has named before, so that a look
+// at one entry tells a stand named twice.
+fn read_stand(
+    bytes: &[u8],
+    n: u16,
+    own: u16,
+    at: usize,
+    seen: &[u16],
+    mark: u16,
+) -> Result<u16, Refusal>
+    requires { ⌜ n ≤ length (now seen) ⌝ }
+    ensures { λ r. ⌜ r ≡ unless (stand-fault (now (bytes .entry)) n own at (eqb (getD (now (seen .entry)) (number-at (now (bytes .entry)) at) 0) mark)) (number-at (now (bytes .entry)) at) ⌝ }
 {
     let Some(stand) = number_in(bytes, at) else {
         return Err(Refusal::WrongLength { at: bytes.len() });
     };
-    if stand >= n || stand == own || seen[stand as usize] == own + 1 {
+    if stand >= n || stand == own || seen[stand as usize] == mark {
         return Err(Refusal::WrongStand { at });
     }
     Ok(stand)
 }
 
-// Reads `count` stands of trader `own` from byte `from` on, and hands on where they end. At first `seen` has at most own at
-// every stand, from the lists before.
+// Reads `count` stands of trader `own` from byte `from` on, and hands on where they end. All marks of lists read before are
+// smaller than `mark`.
 fn read_stands(
     bytes: &[u8],
     n: u16,
@@ -67,17 +74,18 @@ fn read_stands(
     count: u8,
     from: usize,
     seen: &mut [u16],
+    mark: u16,
 ) -> Result<usize, Refusal>
-    requires bound { ⌜ own < n ⌝ ∗ ⌜ n ≤ 4000 ⌝ }
+    requires bound { ⌜ n ≤ 4000 ⌝ }
     requires room { ⌜ length (now seen) ≡ 4000 ⌝ }
-    requires fresh { ⌜ ((t : ℕ) → getD (now seen) t 0 ≤ own) ⌝ }
+    requires fresh { ⌜ ((t : ℕ) → getD (now seen) t 0 < mark) ⌝ }
     ensures answer { λ r. ⌜ r ≡ unless (stands-fault (now (bytes .entry)) n own [] count from) (from + 2 * count) ⌝ }
-    ensures marks { λ _. ⌜ ((t : ℕ) → getD (now (seen .exit)) t 0 ≤ own + 1) ⌝ }
+    ensures marks { λ _. ⌜ ((t : ℕ) → getD (now (seen .exit)) t 0 ≤ mark) ⌝ }
 {
     let mut at = from;
     for k in 0..count {
-        let stand = read_stand(bytes, n, own, at, seen)?;
-        seen[stand as usize] = own + 1;
+        let stand = read_stand(bytes, n, own, at, seen, mark)?;
+        seen[stand as usize] = mark;
         at += 2;
     }
     Ok(at)
@@ -92,7 +100,7 @@ fn read_lists(bytes: &[u8], n: u16) -> Result<usize, Refusal>
     let mut at = 2;
     for own in 0..n {
         let count = read_length(bytes, at)?;
-        at = read_stands(bytes, n, own, count, at + 1, &mut seen)?;
+        at = read_stands(bytes, n, own, count, at + 1, &mut seen, own + 1)?;
     }
     Ok(at)
 }
@@ -125,18 +133,30 @@ pub fn start_of(bytes: &[u8], trader: u16) -> usize
     position
 }
 
-// The bytes of the stands of the list that begins at byte `at`, a part of the bytes; None where they do not all stand there.
-pub fn list_at(bytes: &[u8], at: usize) -> Option<&[u8]>
-    ensures { λ r. ⌜ BySome r (length (now (bytes .entry)) < next-start (now (bytes .entry)) at) (λ s. (now s ≡ list-bytes (now (bytes .entry)) at) × (next-start (now (bytes .entry)) at ≤ length (now (bytes .entry)))) ⌝ }
+// The bytes of the stands of the list that begins at byte `at`, a part of the bytes; where some are missing, those that are there.
+pub fn list_at(bytes: &[u8], at: usize) -> &[u8]
+    ensures { λ r. ⌜ now r ≡ list-bytes (now (bytes .entry)) at ⌝ }
 {
     if at >= bytes.len() {
-        return None;
+        return &bytes[0..0];
     }
     let size = 2 * bytes[at] as usize;
     if bytes.len() - at - 1 < size {
-        return None;
+        return &bytes[at + 1..];
     }
-    Some(&bytes[at + 1..at + 1 + size])
+    &bytes[at + 1..at + 1 + size]
+}
+
+// Reads one trader's list by itself: its count, its stands, and nothing after them. Hands on the bytes of the stands.
+pub fn read_list(list: &[u8], own: u16) -> Result<&[u8], Refusal>
+    ensures { λ r. ⌜ ByOk r (λ s. (now s ≡ list-bytes (now (list .entry)) 0) × (own-list-fault (now (list .entry)) own ≡ None)) (λ f. own-list-fault (now (list .entry)) own ≡ Some f) ⌝ }
+{
+    let count = read_length(list, 0)?;
+    let end = read_stands(list, MOST_TRADERS, own, count, 1, &mut [0; 4000], 1)?;
+    if end < list.len() {
+        return Err(Refusal::WrongLength { at: end });
+    }
+    Ok(list_at(list, 0))
 }
 
 #[cfg(test)]

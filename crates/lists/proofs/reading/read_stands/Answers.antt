@@ -28,8 +28,8 @@ loop-k-again c =
     let within : t < length (c .loop-k .seen) = omega (arith, ok .1) in (
       t ∷ c .loop-k .inv .0,
       stands-next (c .args .bytes .now) (c .args .n) (c .args .own) (c .loop-k .inv .0) _ (c .loop-k .at) _ (c .loop-k .inv .1) _ (c .loop-k .inv .2 u) t _ (ok .1) one (ok .0),
-      marks-more (c .loop-k .seen) (c .args .own) t (c .loop-k .inv .0) within (c .loop-k .inv .2),
-      marks-bound (c .loop-k .seen) (c .args .own) t within (c .loop-k .inv .3),
+      marks-more (c .loop-k .seen) (c .args .mark) t within (c .loop-k .inv .0) (c .loop-k .inv .2),
+      marks-bound (c .loop-k .seen) (c .args .mark) t within (c .loop-k .inv .3),
       omega arith,
     )
 

@@ -10,6 +10,6 @@ abbrev pub Inv-loop-k : given.InvT-loop-k
 Inv-loop-k l =
     (before : List ℕ)
     × (stands-fault (l .bytes) (l .n) (l .own) before (l .count - l .k) (l .at) ≡ stands-fault (l .bytes) (l .n) (l .own) [] (l .count) (l .from))
-    × ((t : ℕ) → eqb (getD (l .seen) t 0) (l .own + 1) ≡ member t before)
-    × ((t : ℕ) → getD (l .seen) t 0 ≤ l .own + 1)
+    × ((t : ℕ) → eqb (getD (l .seen) t 0) (l .mark) ≡ member t before)
+    × ((t : ℕ) → getD (l .seen) t 0 ≤ l .mark)
     × (l .at ≡ l .from + 2 * l .k)
