@@ -9,23 +9,8 @@ use lib.ListN.{length, drop, getD, length-drop}
 use Rattle.std.proofs.shelf.Lists.{drop-more}
 use Rattle.std.proofs.shelf.Tests.{eq-eqb, ne-eqb}
 use Rattle.lists.specs.Format.{number-at, numbers}
+use Rattle.lists.proofs.Positions.{numbers-none, numbers-step}
 use Rattle.theory.specs.Promise.{rank-in}
-
--- the numbers from an even place on: one, and the others
-numbers-step : (xs : List ℕ) (p : ℕ) → 2 * p + 1 < length xs →
-    numbers (drop (2 * p) xs) ≡ number-at xs (2 * p) ∷ numbers (drop (2 * (p + 1)) xs)
-unfolding numbers
-numbers-step xs p h =
-    let a = drop-more xs (2 * p) 0 (omega arith) in
-    let b = drop-more xs (2 * p + 1) 0 h in
-    let e : 2 * p + 1 + 1 ≡ 2 * (p + 1) = omega arith in
-    ap numbers a ∙ (ap (λ r. numbers (getD xs (2 * p) 0 ∷ r)) b ∙ rw e)
-
-numbers-none : (xs : List ℕ) → length xs < 2 → numbers xs ≡ []
-unfolding numbers
-numbers-none [] h = refl
-numbers-none (x ∷ []) h = refl
-numbers-none (x ∷ y ∷ xs) h = absurd (omega arith)
 
 -- one place of the list: the whole rank, while the stand was not found before it
 abbrev pub Step : List ℕ → ℕ → ℕ → ℕ → ℕ → Type 0

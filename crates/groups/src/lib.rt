@@ -12,6 +12,7 @@ ghost use Rattle.lists.specs.Format.{fault, lists-of, number-at, numbers};
 ghost use Rattle.theory.specs.Promise.{rank-in};
 ghost use Rattle.groups.specs.Groups.{Outcome, Right-answer, in-group, stand-of};
 ghost use Rattle.groups.specs.Sharings.{Brought, Differs, Hopeless, Right, Same, Sharing, Sound, Unbrought};
+use lists::bytes::number_at;
 use lists::reading::list_at;
 use lists::reading::read;
 use lists::reading::start_of;
@@ -40,21 +41,13 @@ pub enum Unsearched {
     TooMany,
 }
 
-// The stand at a place of a list.
-fn stand_at(list: &[u8], place: usize) -> u16
-    requires { ⌜ 2 * place + 1 < length (now list) ⌝ }
-    ensures { λ r. ⌜ r ≡ number-at (now (list .entry)) (2 * place) ⌝ }
-{
-    u16::from_le_bytes([list[2 * place], list[2 * place + 1]])
-}
-
 // The rank of a stand by a list: its place; then comes the own stand, and then all others.
 fn rank_of(list: &[u8], own: u16, stand: u16) -> usize
     ensures { λ r. ⌜ r ≡ rank-in (numbers (now (list .entry))) own stand ⌝ }
 {
     let places = list.len() / 2;
     for place in 0..places {
-        if stand_at(list, place) == stand {
+        if number_at(list, 2 * place) == stand {
             return place;
         }
     }
@@ -76,9 +69,7 @@ fn table_of(bytes: &[u8], results: &[u16], n: u16) -> [bool; 64]
 {
     let mut table = [false; 64];
     for i in 0..n {
-        let Some(list) = list_at(bytes, start_of(bytes, i)) else {
-            unreachable()
-        };
+        let list = list_at(bytes, start_of(bytes, i));
         for t in 0..n {
             table[8 * i as usize + t as usize] = no_less_dear(list, i, t, results[i as usize]);
         }

@@ -11,27 +11,11 @@ use lib.ListN.{length, getD, drop, length-drop}
 use Rattle.std.proofs.shelf.Tests.{cases-bool}
 use Rattle.std.proofs.shelf.Lists.{drop-more}
 use Rattle.lists.specs.Format.{number-at, numbers}
+use Rattle.lists.proofs.Positions.{numbers-none, numbers-step}
 use Rattle.theory.specs.Trade.{Standing, is-in, first-in}
 use Rattle.pointing.specs.declared.Pointing.{Pointing}
 use Rattle.pointing.specs.declared.Pointing.the-variants.{Listed, Own}
 use Rattle.pointing.specs.Pointing.{points-from, stand-of, First-at, Is-first, First-is-pointed-to}
-
--- the numbers from an even place on: one, and the others
-pub numbers-step : (xs : List ℕ) (p : ℕ) → 2 * p + 1 < length xs →
-    numbers (drop (2 * p) xs) ≡ (getD xs (2 * p) 0 + 256 * getD xs (2 * p + 1) 0) ∷ numbers (drop (2 * (p + 1)) xs)
-unfolding numbers
-numbers-step xs p h =
-    let a = drop-more xs (2 * p) 0 (omega arith) in
-    let b = drop-more xs (2 * p + 1) 0 h in
-    let e : 2 * p + 1 + 1 ≡ 2 * (p + 1) = omega arith in
-    ap numbers a ∙ (ap (λ r. numbers (getD xs (2 * p) 0 ∷ r)) b ∙ rw e)
-
--- fewer than two bytes give no number
-pub numbers-none : (xs : List ℕ) → length xs < 2 → numbers xs ≡ []
-unfolding numbers
-numbers-none [] h = refl
-numbers-none (x ∷ []) h = refl
-numbers-none (x ∷ y ∷ xs) h = absurd (omega arith)
 
 -- one place of the list
 abbrev pub Step : List ℕ → List ℕ → ℕ → Pointing → Type 0

@@ -1,10 +1,10 @@
 // What a trader who is in points to: the dearest listed stand whose holder is in, or the own one.
-ghost use Prim.Native.Nat.{_+_, _*_, _<_};
 ghost use lib.Dec.{eqb};
-ghost use lib.ListN.{length, getD};
+ghost use lib.ListN.{getD};
 ghost use mathlib.Core.Path.{_≡_};
-ghost use Rattle.lists.specs.Format.{number-at, numbers};
+ghost use Rattle.lists.specs.Format.{numbers};
 ghost use Rattle.pointing.specs.Pointing.{points-from, stand-of, First-is-pointed-to};
+use lists::bytes::number_at;
 
 // the mark of a trader who is in
 const IN: u16 = 1;
@@ -29,14 +29,6 @@ impl Pointing {
     }
 }
 
-// The stand at a place of the list.
-fn stand_at(list: &[u8], place: usize) -> u16
-    requires { ⌜ 2 * place + 1 < length (now list) ⌝ }
-    ensures { λ r. ⌜ r ≡ number-at (now (list .entry)) (2 * place) ⌝ }
-{
-    u16::from_le_bytes([list[2 * place], list[2 * place + 1]])
-}
-
 // The holder of a stand is in. Nobody holds a stand past the last trader's.
 fn holder_in(inside: &[u16], stand: u16) -> bool
     ensures { λ r. ⌜ r ≡ eqb (getD (now (inside .entry)) stand 0) 1 ⌝ }
@@ -49,7 +41,7 @@ pub fn point_to(list: &[u8], inside: &[u16]) -> Pointing
     ensures { λ r. ⌜ r ≡ points-from (now (inside .entry)) (numbers (now (list .entry))) 0 ⌝ }
 {
     for place in 0..list.len() / 2 {
-        let stand = stand_at(list, place);
+        let stand = number_at(list, 2 * place);
         if holder_in(inside, stand) {
             return Pointing::Listed { place, stand };
         }

@@ -13,7 +13,7 @@ loop-place-holds c = (zero-add _, step (c .args .list .now) (c .args .own) (c .a
 
 pub loop-place-again : need.loop-place-again
 loop-place-again c =
-    let differs : eqb _ (c .args .stand) ≡ false = ne-eqb _ _ (λ e. c .if-stand-at-stand .left (c .stand-at .ensures ∙ e)) in
+    let differs : eqb _ (c .args .stand) ≡ false = ne-eqb _ _ (λ e. c .if-number-at-stand .left (c .number-at .ensures ∙ e)) in
     let on = next (c .args .list .now) (c .args .own) (c .args .stand) (c .loop-place .place) _ (c .loop-place .inv .1) (omega arith) differs in
     (on, step (c .args .list .now) (c .args .own) (c .args .stand) (c .loop-place .place + 1) _ on)
 

@@ -3,7 +3,7 @@ use Prim.Native.Nat.{_+_, _*_, _<_}
 use lib.ListN.{length-set}
 use native.Mathlib.Omega.{arith}
 use Rattle.lists.specs.Format.{Begins, lists-of, numbers}
-use Rattle.lists.proofs.Accepted.{begins-list, begins-within}
+use Rattle.lists.proofs.Accepted.{begins-list}
 use Rattle.groups.proofs.Tables.{by-list, right-more}
 use Rattle.groups.proofs.table_of.Needs as need
 
@@ -15,13 +15,8 @@ loop-t-again c =
     let n = c .pre .accepted .1 in
     let bs = c .args .bytes .now in
     let begins : Begins (c .args .bytes .now) (c .loop-i .i) (c .start-of .result) = (c .pre .accepted .0, omega arith, c .start-of .ensures) in
-    let list = ap numbers (c .in-Some .ensures tt .0) ∙ begins-list bs i (c .start-of .result) begins in (
+    let list = ap numbers (c .list-at-list .ensures) ∙ begins-list bs i (c .start-of .result) begins in (
       simp length-set (c .loop-t .inv .0),
       right-more ls (c .args .results .now) (c .args .n) i t (c .loop-t .table) _ (c .pre .few .0) (c .loop-t-test .taken) (omega arith) (c .loop-t .inv .1)
           (by-list ls i t _ _ _ list (c .no-less-dear .ensures)),
     )
-
-pub unreachable-requires : need.unreachable-requires
-unreachable-requires c κs =
-    let begins : Begins (c .args .bytes .now) (c .loop-i .i) (c .start-of .result) = (c .pre .accepted .0, omega arith, c .start-of .ensures) in
-    omega (arith, c .in-rest .ensures tt, begins-within (c .args .bytes .now) (c .loop-i .i) (c .start-of .result) begins)

@@ -10,7 +10,7 @@ loop-place-holds c = (refl, step (c .args .inside .now) (c .args .list .now) 0 _
 pub loop-place-again : need.loop-place-again
 loop-place-again c =
     let on = next (c .args .inside .now) (c .args .list .now) (c .loop-place .place) _ _ (c .loop-place .inv .1) (omega arith)
-    (c .stand-at-stand .ensures) (sym (c .if-holder-in .ensures tt)) in
+    (c .number-at-stand .ensures) (sym (c .if-holder-in .ensures tt)) in
     (on, step (c .args .inside .now) (c .args .list .now) (c .loop-place .place + 1) _ on)
 
 pub returns : need.returns
