@@ -108,11 +108,10 @@ module _ (ls : Lists) (n : ℕ) (size : length ls ≡ n) (k : ℕ) (results work
   follows j h e = getD-take n pointed j 0 (omega arith) ∙ pointed-in j e
 
   -- the rings are looked for among the first n entries
-  module _ (marked : List ℕ) (told : marked ≡ left-by (Ok tt) (take (n - 0) pointed) work) where
+  module _ (marked : List ℕ) (told : marked ≡ left-by (Ok tt) (take n pointed) work) where
     M : marked ≡ take n work ++ (ring-flags (take n work) (take n pointed) ++ drop (2 * n) work)
     M =
-        let e : n - 0 ≡ n = omega arith in
-        marked-as n work pointed (take (n - 0) pointed) marked (rw e) (omega (arith, P .same-length)) told
+        marked-as n work pointed (take n pointed) marked refl (omega (arith, P .same-length)) told
 
     in-length : length (take n work) ≡ n
     in-length = length-take-le n work (omega arith)

@@ -1,9 +1,10 @@
 // The exchange over lent slices: round after round, until nobody is in.
 ghost use Prim.Native.Nat.{_+_, _*_, _<_, _≤_};
-ghost use lib.ListN.{drop, length, replicate};
+ghost use lib.ListN.{drop, length, replicate, take};
 ghost use mathlib.Core.List.{_++_};
 ghost use mathlib.Core.Path.{_≡_};
 ghost use Rattle.lists.specs.Format.{fault, lists-of, number-at, unless};
+ghost use Rattle.rings.specs.Ring.{answer, left-by};
 ghost use Rattle.std.specs.declared.option.Option.the-variants.{None};
 ghost use Rattle.std.specs.declared.result.Result.the-variants.{Ok};
 ghost use Rattle.rounds.specs.Run.{exchanged, results-left, run-fault, work-left};
@@ -72,8 +73,7 @@ fn all_rounds(
     let_all_in(work, size);
     let mut round = 0;
     'rounds: loop {
-        point_all(bytes, n, work, results);
-        mark_rings(&results[0..size], work)?;
+        find_rings(bytes, n, results, work)?;
         // how many are in after the round
         let mut left = 0;
         'traders: for i in 0..size {
@@ -102,6 +102,20 @@ fn let_all_in(work: &mut [u16], n: usize)
     work[0..n].fill(IN);
 }
 
+// Everybody who is in points, and only then are the rings looked for: who is on one, and so gets what, is by what all point to.
+fn find_rings(bytes: &[u8], n: u16, results: &mut [u16], work: &mut [u16]) -> Result<(), Refusal>
+    requires accepted { ⌜ fault (now bytes) ≡ None ⌝ }
+    requires traders { ⌜ n ≡ number-at (now bytes) 0 ⌝ }
+    requires results { ⌜ n ≤ length (now results) ⌝ }
+    requires work { ⌜ 3 * n ≤ length (now work) ⌝ }
+    ensures pointed { λ _. ⌜ All-pointed (lists-of (now (bytes .entry))) n (now (work .entry)) (now (results .entry)) (now (results .exit)) ⌝ }
+    ensures answer { λ r. ⌜ r ≡ answer (take n (now (results .exit))) (now (work .entry)) ⌝ }
+    ensures work { λ r. ⌜ now (work .exit) ≡ left-by r (take n (now (results .exit))) (now (work .entry)) ⌝ }
+{
+    point_all(bytes, n, work, results);
+    mark_rings(&results[0..n as usize], work)
+}
+
 // Everybody who is in points: so nobody's going out changes what another points to in the same round.
 fn point_all(bytes: &[u8], n: u16, work: &[u16], results: &mut [u16])
     requires accepted { ⌜ fault (now bytes) ≡ None ⌝ }
@@ -112,10 +126,7 @@ fn point_all(bytes: &[u8], n: u16, work: &[u16], results: &mut [u16])
 {
     let mut at = 2;
     'traders: for i in 0..n {
-        // accepted lists have a list for each trader
-        let Some(list) = list_at(bytes, at) else {
-            break 'traders;
-        };
+        let list = list_at(bytes, at);
         at += 1 + list.len();
         point(list, n, i, work, results);
     }

@@ -38,15 +38,15 @@ traders-holds c =
     let space : 3 * n ≤ length (c .let-all-in .last .work) = omega arith in
     let bits =
     marked-bits (lists-of bs) n size (c .rounds .round) (c .rounds .results) (c .rounds .work) (c .args .results .now) (c .let-all-in .last .work) (c .rounds .inv .0)
-    (c .pre .results) space (c .point-all .last .results) (c .point-all .ensures) (c .mark-rings .last .work) (c .in-Continue-mark-rings .ensures tt .work)
+    (c .pre .results) space (c .find-rings .last .results) (c .find-rings .ensures .pointed) (c .find-rings .last .work) (c .in-Continue-find-rings .ensures tt .work)
     in
-    (taken-none n (c .rounds .round) (c .mark-rings .last .work), refl, bits)
+    (taken-none n (c .rounds .round) (c .find-rings .last .work), refl, bits)
 
 pub traders-again-then-on-ring : need.traders-again-then-on-ring
 traders-again-then-on-ring c =
     let n = c .args .n in
     let i = c .traders .i in
-    let was = c .mark-rings .last .work in
+    let was = c .find-rings .last .work in
     let long : 3 * n ≤ length was = omega arith in
     let room : 3 * n ≤ length (c .traders .work) = omega (arith, c .traders .inv .0 .same-length) in (
       taken-more n (c .rounds .round) was (c .traders .work) i (c .traders-test .taken) (c .traders .inv .0) long (c .take-out .last .work) (sym (c .if-on-ring .ensures tt)) (c .take-out .ensures),
@@ -63,7 +63,7 @@ add-left c =
 
 pub traders-again : need.traders-again
 traders-again c = (
-  taken-stays (c .args .n) (c .rounds .round) (c .mark-rings .last .work) (c .traders .work) (c .traders .i) (c .traders-test .taken) (c .traders .inv .0) (sym (c .if-on-ring .ensures tt)),
+  taken-stays (c .args .n) (c .rounds .round) (c .find-rings .last .work) (c .traders .work) (c .traders .i) (c .traders-test .taken) (c .traders .inv .0) (sym (c .if-on-ring .ensures tt)),
   still-stays (c .traders .work) (c .traders .i) (c .traders .left) (c .traders .inv .1),
   c .traders .inv .2,
 )
@@ -87,14 +87,14 @@ rounds-again c =
     let size : length (lists-of bs) ≡ n = count-of-lists bs ∙ sym (c .pre .traders) in
     let space : 3 * n ≤ length (c .let-all-in .last .work) = omega arith in
     let end : c .traders .i ≡ n = omega arith in
-    let all : Taken n (c .rounds .round) (c .mark-rings .last .work) (c .traders .work) n = rw end at (c .traders .inv .0) in
+    let all : Taken n (c .rounds .round) (c .find-rings .last .work) (c .traders .work) n = rw end at (c .traders .inv .0) in
     let S =
     stands-next (lists-of bs) n size (c .rounds .round) (c .rounds .results) (c .rounds .work) (c .args .results .now) (c .let-all-in .last .work) (c .rounds .inv .0)
-    (c .pre .results) space (c .point-all .last .results) (c .point-all .ensures) (c .mark-rings .last .work) (c .in-Continue-mark-rings .ensures tt .work)
+    (c .pre .results) space (c .find-rings .last .results) (c .find-rings .ensures .pointed) (c .find-rings .last .work) (c .in-Continue-find-rings .ensures tt .work)
     (c .traders .work) all
     in
     let left : still-in (c .traders .work) n ≡ 0 → ⊥ = (λ e. c .if-left-eq0 .left (c .traders .inv .1 ∙ (rw end e))) in
-    let some = somebody-left (lists-of bs) n size (suc (c .rounds .round)) (c .point-all .last .results) (c .traders .work) (c .args .results .now) (c .let-all-in .last .work) S left in
+    let some = somebody-left (lists-of bs) n size (suc (c .rounds .round)) (c .find-rings .last .results) (c .traders .work) (c .args .results .now) (c .let-all-in .last .work) S left in
     rw (add-one (c .rounds .round)) (S, going-more (lists-of bs) (c .rounds .round) (c .rounds .inv .1) some)
 
 pub returns : need.returns
@@ -104,27 +104,27 @@ returns c =
     let size : length (lists-of bs) ≡ n = count-of-lists bs ∙ sym (c .pre .traders) in
     let space : 3 * n ≤ length (c .let-all-in .last .work) = omega arith in
     let end : c .traders .i ≡ n = omega arith in
-    let all : Taken n (c .rounds .round) (c .mark-rings .last .work) (c .traders .work) n = rw end at (c .traders .inv .0) in
+    let all : Taken n (c .rounds .round) (c .find-rings .last .work) (c .traders .work) n = rw end at (c .traders .inv .0) in
     let S =
     stands-next (lists-of bs) n size (c .rounds .round) (c .rounds .results) (c .rounds .work) (c .args .results .now) (c .let-all-in .last .work) (c .rounds .inv .0)
-    (c .pre .results) space (c .point-all .last .results) (c .point-all .ensures) (c .mark-rings .last .work) (c .in-Continue-mark-rings .ensures tt .work)
+    (c .pre .results) space (c .find-rings .last .results) (c .find-rings .ensures .pointed) (c .find-rings .last .work) (c .in-Continue-find-rings .ensures tt .work)
     (c .traders .work) all
     in
     let clear =
     flags-clear (lists-of bs) n size (c .rounds .round) (c .rounds .results) (c .rounds .work) (c .args .results .now) (c .let-all-in .last .work) (c .rounds .inv .0)
-    (c .pre .results) space (c .point-all .last .results) (c .point-all .ensures) (c .mark-rings .last .work) (c .in-Continue-mark-rings .ensures tt .work)
+    (c .pre .results) space (c .find-rings .last .results) (c .find-rings .ensures .pointed) (c .find-rings .last .work) (c .in-Continue-find-rings .ensures tt .work)
     (c .traders .work) all
     in
     let none : still-in (c .traders .work) n ≡ 0 = rw end at (sym (c .traders .inv .1) ∙ c .if-left-eq0 .taken) in
-    let nobody = nobody-left (lists-of bs) n size (suc (c .rounds .round)) (c .point-all .last .results) (c .traders .work) (c .args .results .now) (c .let-all-in .last .work) S none in
+    let nobody = nobody-left (lists-of bs) n size (suc (c .rounds .round)) (c .find-rings .last .results) (c .traders .work) (c .args .results .now) (c .let-all-in .last .work) S none in
     let count : round-count (lists-of bs) ≡ c .rounds .round + 1 = going-end (lists-of bs) (c .rounds .round) (c .rounds .inv .1) nobody ∙ sym (add-one (c .rounds .round)) in
     let behind : drop (3 * length (lists-of bs)) (c .let-all-in .last .work) ≡ drop (3 * length (lists-of bs)) (c .args .work .now) =
     ap (drop (3 * length (lists-of bs))) (c .let-all-in .ensures) ∙ drop-append-drop n (c .args .work .now) (replicate n 1) (3 * length (lists-of bs)) (omega arith) (length-replicate {A = ℕ} n 1)
     in
     record {
       answer = rw (size, count);
-      results = results-end (lists-of bs) n size (suc (c .rounds .round)) (c .point-all .last .results) (c .traders .work) (c .args .results .now) (c .let-all-in .last .work) S nobody (c .pre .results);
+      results = results-end (lists-of bs) n size (suc (c .rounds .round)) (c .find-rings .last .results) (c .traders .work) (c .args .results .now) (c .let-all-in .last .work) S nobody (c .pre .results);
       work =
-          work-end (lists-of bs) n size (suc (c .rounds .round)) (c .point-all .last .results) (c .traders .work) (c .args .results .now) (c .let-all-in .last .work) S nobody space clear
+          work-end (lists-of bs) n size (suc (c .rounds .round)) (c .find-rings .last .results) (c .traders .work) (c .args .results .now) (c .let-all-in .last .work) S nobody space clear
           ∙ ap (λ xs. replicate (2 * length (lists-of bs)) 0 ++ (outs-of (lists-of bs) ++ xs)) behind;
     }
