@@ -9,6 +9,7 @@ ghost use Rattle.std.specs.declared.option.Option.the-variants.{Some, None};
 ghost use Rattle.std.specs.Options.{Cases as BySome};
 ghost use Rattle.std.specs.Results.{Cases as ByOk};
 ghost use Rattle.lists.specs.Format.{count-fault, end-fault, fault, length-fault, list-bytes, lists-fault, next-start, number-at, own-list-fault, stand-fault, stands-fault, start, unless};
+use crate::bytes::byte_at;
 use crate::bytes::number_in;
 use crate::refusals::Refusal;
 
@@ -123,12 +124,7 @@ pub fn start_of(bytes: &[u8], trader: u16) -> usize
 {
     let mut position = 2;
     for i in 0..trader {
-        let count = if position >= bytes.len() {
-            0
-        } else {
-            bytes[position]
-        };
-        position += 1 + 2 * count as usize;
+        position += 1 + 2 * byte_at(bytes, position) as usize;
     }
     position
 }
