@@ -12,7 +12,7 @@ use Rattle.std.specs.declared.option.Option.{Option}
 use Rattle.std.specs.declared.option.Option.the-variants.{Some, None}
 use Rattle.lists.specs.declared.refusals.Refusal.{Refusal}
 use Rattle.lists.specs.Format.{number-at, numbers, or-else}
-use Rattle.pointing.proofs.Places.{numbers-step, numbers-none}
+use Rattle.lists.proofs.Positions.{numbers-step, numbers-none}
 use Rattle.sheet.specs.Sheet.{stand-in, later-fault, own-fault, dearer-fault}
 
 -- the places of the list xs from p on have the fault `whole`

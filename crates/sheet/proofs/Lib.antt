@@ -1,4 +1,4 @@
-pub mod Entries
+pub mod Writing
 pub mod Promise
 pub mod Checked
 pub mod Dearer

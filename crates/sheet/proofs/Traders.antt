@@ -83,22 +83,6 @@ module _ (bs : List ℕ) (accepted : fault bs ≡ None) (i at : ℕ) (h : i < nu
       let few : getD bs at 0 ≤ 40 = rw begins (short-list bs accepted i h) in
       let long = part-length in omega arith
 
-  exists-there : (p : ℕ) → 2 * p + 1 < length (list-bytes bs at) → number-at (list-bytes bs at) (2 * p) < number-at bs 0
-  unfolding Distinct
-  exists-there p inside =
-      let long = part-length in
-      let below : p < getD bs at 0 = omega arith in
-      let count = numbers-length (list-bytes bs at) (getD bs at 0) long in
-      let number = numbers-at (list-bytes bs at) (getD bs at 0) p long below in
-      let exists : (j : ℕ) → j < length (numbers (list-bytes bs at)) → getD (numbers (list-bytes bs at)) j (number-at bs 0) < number-at bs 0 =
-      rw begins (list-distinct bs accepted i h .0 .1) in
-      let there : p < length (numbers (list-bytes bs at)) = omega arith in
-      rw (← number, getD-default (numbers (list-bytes bs at)) p 0 (number-at bs 0) there) (exists p there)
-
-  pub part-exists : (n : ℕ) (list : List ℕ) → n ≡ number-at bs 0 → list ≡ list-bytes bs at →
-      (p : ℕ) → 2 * p + 1 < length list → number-at list (2 * p) < n
-  part-exists n list count is = rw (count, is) exists-there
-
   pub trader-is : (sheet : List ℕ) (n : ℕ) (list : List ℕ) (again : Bool) → n ≡ number-at bs 0 → list ≡ list-bytes bs at →
       again ≡ got-before sheet i (stand-in sheet i) →
       entry-fault sheet n i (numbers list) again ≡ trader-fault (lists-of bs) sheet i

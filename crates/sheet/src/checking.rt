@@ -1,41 +1,21 @@
 // Checking anybody's sheet against the lists of a year.
-ghost use Prim.Native.Nat.{ℕ, _+_, _*_, _/_, _≤_, _<_};
+ghost use Prim.Native.Nat.{_/_, _≤_};
 ghost use lib.Dec.{eqb};
 ghost use lib.ListN.{length, getD};
 ghost use mathlib.Core.Path.{_≡_};
 ghost use Rattle.std.specs.declared.option.Option.the-variants.{None};
-ghost use Rattle.lists.specs.Format.{fault, list-bytes, lists-of, next-start, number-at, numbers, unless};
+ghost use Rattle.lists.specs.Format.{fault, lists-of, number-at, numbers, unless};
 ghost use Rattle.sheet.specs.Check.{Checked};
 ghost use Rattle.sheet.specs.Sheet.{Accepts-exactly, Accepts-what-was-written, check-fault, dearer-fault, entry-fault, holder-fault, later-fault, length-fault, own-fault, round-in, stand-in, taken-fault, traders-fault};
+use crate::entries::round_in;
+use crate::entries::stand_in;
+use lists::bytes::number_at;
+use lists::reading::list_at;
 use lists::reading::read;
 use lists::refusals::Refusal;
 
 // the mark of a stand that a trader before got
 const TAKEN: u8 = 1;
-
-// The two-byte number whose first byte is byte `at`.
-fn number_in(bytes: &[u8], at: usize) -> u16
-    requires { ⌜ at + 1 < length (now bytes) ⌝ }
-    ensures { λ r. ⌜ r ≡ number-at (now (bytes .entry)) at ⌝ }
-{
-    u16::from_le_bytes([bytes[at], bytes[at + 1]])
-}
-
-// The stand that a trader got.
-fn stand_of(sheet: &[u8], trader: u16) -> u16
-    requires { ⌜ 4 * trader + 3 < length (now sheet) ⌝ }
-    ensures { λ r. ⌜ r ≡ stand-in (now (sheet .entry)) trader ⌝ }
-{
-    number_in(sheet, 4 * trader as usize)
-}
-
-// The round in which a trader went out.
-fn round_of(sheet: &[u8], trader: u16) -> u16
-    requires { ⌜ 4 * trader + 3 < length (now sheet) ⌝ }
-    ensures { λ r. ⌜ r ≡ round-in (now (sheet .entry)) trader ⌝ }
-{
-    number_in(sheet, 4 * trader as usize + 2)
-}
 
 // The sheet has an entry for each trader, and no more.
 fn check_length(sheet: &[u8], n: u16) -> Result<usize, Refusal>
@@ -51,10 +31,10 @@ fn check_length(sheet: &[u8], n: u16) -> Result<usize, Refusal>
 
 // The stand that a trader got: it exists, and no trader before got it. `taken` has 1 at the stands that were got before.
 fn read_stand(sheet: &[u8], n: u16, trader: u16, taken: &[u8]) -> Result<u16, Refusal>
-    requires { ⌜ 4 * trader + 3 < length (now sheet) ⌝ ∗ ⌜ n ≤ length (now taken) ⌝ }
+    requires { ⌜ n ≤ length (now taken) ⌝ }
     ensures { λ r. ⌜ r ≡ unless (taken-fault (now (sheet .entry)) n trader (eqb (getD (now (taken .entry)) (stand-in (now (sheet .entry)) trader) 0) 1)) (stand-in (now (sheet .entry)) trader) ⌝ }
 {
-    let got = stand_of(sheet, trader);
+    let got = stand_in(sheet, trader);
     if got >= n || taken[got as usize] == TAKEN {
         return Err(Refusal::StandTaken { trader });
     }
@@ -63,11 +43,10 @@ fn read_stand(sheet: &[u8], n: u16, trader: u16, taken: &[u8]) -> Result<u16, Re
 
 // The holder of a dearer stand, at a place of a trader's list, went out before the trader: the holder's round.
 fn check_dearer(sheet: &[u8], trader: u16, stand: u16, place: u8) -> Result<u16, Refusal>
-    requires { ⌜ 4 * trader + 3 < length (now sheet) ⌝ ∗ ⌜ 4 * stand + 3 < length (now sheet) ⌝ }
     ensures { λ r. ⌜ r ≡ unless (later-fault (now (sheet .entry)) trader stand place) (round-in (now (sheet .entry)) stand) ⌝ }
 {
-    let round = round_of(sheet, stand);
-    if round >= round_of(sheet, trader) {
+    let round = round_in(sheet, stand);
+    if round >= round_in(sheet, trader) {
         return Err(Refusal::DearerLater { trader, place });
     }
     Ok(round)
@@ -75,10 +54,9 @@ fn check_dearer(sheet: &[u8], trader: u16, stand: u16, place: u8) -> Result<u16,
 
 // Past its list, of `count` stands, a trader has got the own stand.
 fn check_own(sheet: &[u8], trader: u16, count: u8) -> Result<u16, Refusal>
-    requires { ⌜ 4 * trader + 3 < length (now sheet) ⌝ }
     ensures { λ r. ⌜ r ≡ unless (own-fault (now (sheet .entry)) trader count) (stand-in (now (sheet .entry)) trader) ⌝ }
 {
-    let got = stand_of(sheet, trader);
+    let got = stand_in(sheet, trader);
     if got != trader {
         return Err(Refusal::DearerLater {
             trader,
@@ -89,11 +67,11 @@ fn check_own(sheet: &[u8], trader: u16, count: u8) -> Result<u16, Refusal>
 }
 
 // The holder of the stand that a trader got went out in the same round.
-fn check_holder(sheet: &[u8], trader: u16, got: u16) -> Result<u16, Refusal>
-    requires { ⌜ 4 * trader + 3 < length (now sheet) ⌝ ∗ ⌜ 4 * got + 3 < length (now sheet) ⌝ ∗ ⌜ got ≡ stand-in (now sheet) trader ⌝ }
-    ensures { λ r. ⌜ r ≡ unless (holder-fault (now (sheet .entry)) trader) got ⌝ }
+fn check_holder(sheet: &[u8], trader: u16) -> Result<u16, Refusal>
+    ensures { λ r. ⌜ r ≡ unless (holder-fault (now (sheet .entry)) trader) (stand-in (now (sheet .entry)) trader) ⌝ }
 {
-    if round_of(sheet, got) != round_of(sheet, trader) {
+    let got = stand_in(sheet, trader);
+    if round_in(sheet, got) != round_in(sheet, trader) {
         return Err(Refusal::HolderElsewhere { trader });
     }
     Ok(got)
@@ -109,14 +87,13 @@ fn count_of(list: &[u8]) -> u8
 
 // The holders of the stands of a trader's list went out before the trader, up to the stand that it got.
 fn check_list(sheet: &[u8], list: &[u8], trader: u16) -> Result<u16, Refusal>
-    requires bound { ⌜ 4 * trader + 3 < length (now sheet) ⌝ ∗ ⌜ length (now list) ≤ 510 ⌝ }
-    requires exist { ⌜ ((p : ℕ) → 2 * p + 1 < length (now list) → 4 * number-at (now list) (2 * p) + 3 < length (now sheet)) ⌝ }
+    requires { ⌜ length (now list) ≤ 510 ⌝ }
     ensures { λ r. ⌜ r ≡ unless (dearer-fault (now (sheet .entry)) trader (numbers (now (list .entry))) 0) (stand-in (now (sheet .entry)) trader) ⌝ }
 {
-    let got = stand_of(sheet, trader);
+    let got = stand_in(sheet, trader);
     let count = count_of(list);
     for place in 0..count {
-        let stand = number_in(list, 2 * place as usize);
+        let stand = number_at(list, 2 * place as usize);
         if stand == got {
             return Ok(got);
         }
@@ -133,35 +110,24 @@ fn check_trader(
     trader: u16,
     taken: &[u8],
 ) -> Result<u16, Refusal>
-    requires bound { ⌜ trader < n ⌝ ∗ ⌜ length (now sheet) ≡ 4 * n ⌝ ∗ ⌜ n ≤ length (now taken) ⌝ ∗ ⌜ length (now list) ≤ 510 ⌝ }
-    requires exist { ⌜ ((p : ℕ) → 2 * p + 1 < length (now list) → number-at (now list) (2 * p) < n) ⌝ }
+    requires { ⌜ n ≤ length (now taken) ⌝ ∗ ⌜ length (now list) ≤ 510 ⌝ }
     ensures { λ r. ⌜ r ≡ unless (entry-fault (now (sheet .entry)) n trader (numbers (now (list .entry))) (eqb (getD (now (taken .entry)) (stand-in (now (sheet .entry)) trader) 0) 1)) (stand-in (now (sheet .entry)) trader) ⌝ }
 {
-    let got = read_stand(sheet, n, trader, taken)?;
+    read_stand(sheet, n, trader, taken)?;
     check_list(sheet, list, trader)?;
-    check_holder(sheet, trader, got)
-}
-
-// The bytes of the stands of the list that begins at byte `at`, where they all stand there.
-fn list_in(bytes: &[u8], at: usize) -> &[u8]
-    requires { ⌜ next-start (now bytes) at ≤ length (now bytes) ⌝ }
-    ensures { λ r. ⌜ now r ≡ list-bytes (now (bytes .entry)) at ⌝ }
-{
-    let size = 2 * bytes[at] as usize;
-    &bytes[at + 1..at + 1 + size]
+    check_holder(sheet, trader)
 }
 
 // Checks the entries of all traders, one after the other: the number of traders.
 fn check_traders(bytes: &[u8], sheet: &[u8], n: u16) -> Result<u16, Refusal>
     requires accepted { ⌜ fault (now bytes) ≡ None ⌝ }
     requires count { ⌜ n ≡ number-at (now bytes) 0 ⌝ }
-    requires size { ⌜ length (now sheet) ≡ 4 * n ⌝ }
     ensures { λ r. ⌜ r ≡ unless (traders-fault (lists-of (now (bytes .entry))) (now (sheet .entry)) 0 n) n ⌝ }
 {
     let mut taken = [0u8; 4000];
     let mut at = 2;
     for trader in 0..n {
-        let list = list_in(bytes, at);
+        let list = list_at(bytes, at);
         let got = check_trader(sheet, n, list, trader, &taken)?;
         taken[got as usize] = TAKEN;
         at += 1 + list.len();

@@ -2,7 +2,7 @@ use Prim.Native.Nat.{_+_, _*_}
 use native.Mathlib.Omega.{arith}
 use mathlib.Core.Path.{_≡_, _∙_}
 use lib.ListN.{getD}
-use Rattle.sheet.proofs.Entries.{entries-more}
+use Rattle.sheet.proofs.Writing.{entries-more}
 use Rattle.sheet.proofs.exchanging.write_sheet.Needs as need
 
 pub loop-i-again : need.loop-i-again
