@@ -12,7 +12,7 @@ use Rattle.std.proofs.shelf.Tests.{cases-bool, cases-eq, cases-lt, cases-order,
 use Rattle.std.specs.declared.option.Option.{Option}
 use Rattle.std.specs.declared.option.Option.the-variants.{Some, None}
 use Rattle.std.specs.declared.result.Result.{Result}
-use Rattle.std.specs.declared.result.Result.the-variants.{Ok}
+use Rattle.std.specs.declared.result.Result.the-variants.{Ok, Err}
 use Rattle.lists.specs.declared.refusals.Refusal.{Refusal}
 use Rattle.lists.specs.Format.{fault, lists-of, number-at, unless}
 use Rattle.theory.specs.Promise.{Distinct, Proper, rank-in, rank}
@@ -213,8 +213,16 @@ module _ (bs sheet : List ℕ) (n : ℕ) (accepted : fault bs ≡ None) (count :
   length-same : length-fault (length (lists-of bs)) sheet ≡ length-fault n sheet
   length-same = rw (count-of-lists bs, count)
 
-  pub length-wrong : (f : Refusal) → length-fault n sheet ≡ Some f → check-fault bs sheet ≡ Some f
+  length-right : length-fault n sheet ≡ None → check-fault bs sheet ≡ traders-fault (lists-of bs) sheet 0 n
+  length-right e = rw (accepted, length-same, e, count-of-lists bs, count)
+
+  pub length-wrong : (f : Refusal) → length-fault n sheet ≡ Some f → _≡_ {A = Result ℕ Refusal} (Err f) (unless (check-fault bs sheet) (number-at bs 0))
   length-wrong f e = rw (accepted, length-same, e)
 
-  pub length-right : length-fault n sheet ≡ None → check-fault bs sheet ≡ traders-fault (lists-of bs) sheet 0 n
-  length-right e = rw (accepted, length-same, e, count-of-lists bs, count)
+  pub trader-wrong : (f : Refusal) → length-fault n sheet ≡ None → traders-fault (lists-of bs) sheet 0 n ≡ Some f →
+      _≡_ {A = Result ℕ Refusal} (Err f) (unless (check-fault bs sheet) (number-at bs 0))
+  trader-wrong f sized e = rw (length-right sized, e)
+
+  pub all-right : length-fault n sheet ≡ None → traders-fault (lists-of bs) sheet 0 n ≡ None →
+      _≡_ {A = Result ℕ Refusal} (Ok n) (unless (check-fault bs sheet) (number-at bs 0))
+  all-right sized e = rw (length-right sized, e) (ap Ok count)

@@ -6,7 +6,7 @@ ghost use mathlib.Core.Path.{_≡_};
 ghost use Rattle.std.specs.declared.option.Option.the-variants.{None};
 ghost use Rattle.lists.specs.Format.{fault, lists-of, number-at, numbers, unless};
 ghost use Rattle.sheet.specs.Check.{Checked};
-ghost use Rattle.sheet.specs.Sheet.{Accepts-exactly, Accepts-what-was-written, check-fault, dearer-fault, entry-fault, holder-fault, later-fault, length-fault, own-fault, round-in, stand-in, taken-fault, traders-fault};
+ghost use Rattle.sheet.specs.Sheet.{Accepts-exactly, Accepts-what-was-written, check-fault, dearer-fault, entry-fault, holder-fault, later-fault, length-fault, own-fault, stand-in, taken-fault, traders-fault};
 use crate::entries::round_in;
 use crate::entries::stand_in;
 use lists::bytes::number_at;
@@ -17,64 +17,64 @@ use lists::refusals::Refusal;
 // the mark of a stand that a trader before got
 const TAKEN: u8 = 1;
 
+// Each of these functions tells the first fault, None where there is none.
+
 // The sheet has an entry for each trader, and no more.
-fn check_length(sheet: &[u8], n: u16) -> Result<usize, Refusal>
-    ensures { λ r. ⌜ r ≡ unless (length-fault n (now (sheet .entry))) (length (now (sheet .entry))) ⌝ }
+fn length_fault(sheet: &[u8], n: u16) -> Option<Refusal>
+    ensures { λ r. ⌜ r ≡ length-fault n (now (sheet .entry)) ⌝ }
 {
     if sheet.len() != 4 * n as usize {
-        return Err(Refusal::SheetLength {
+        return Some(Refusal::SheetLength {
             length: sheet.len(),
         });
     }
-    Ok(sheet.len())
+    None
 }
 
-// The stand that a trader got: it exists, and no trader before got it. `taken` has 1 at the stands that were got before.
-fn read_stand(sheet: &[u8], n: u16, trader: u16, taken: &[u8]) -> Result<u16, Refusal>
+// The stand that a trader got exists, and no trader before got it. `taken` has 1 at the stands that were got before.
+fn taken_fault(sheet: &[u8], n: u16, trader: u16, taken: &[u8]) -> Option<Refusal>
     requires { ⌜ n ≤ length (now taken) ⌝ }
-    ensures { λ r. ⌜ r ≡ unless (taken-fault (now (sheet .entry)) n trader (eqb (getD (now (taken .entry)) (stand-in (now (sheet .entry)) trader) 0) 1)) (stand-in (now (sheet .entry)) trader) ⌝ }
+    ensures { λ r. ⌜ r ≡ taken-fault (now (sheet .entry)) n trader (eqb (getD (now (taken .entry)) (stand-in (now (sheet .entry)) trader) 0) 1) ⌝ }
 {
     let got = stand_in(sheet, trader);
     if got >= n || taken[got as usize] == TAKEN {
-        return Err(Refusal::StandTaken { trader });
+        return Some(Refusal::StandTaken { trader });
     }
-    Ok(got)
+    None
 }
 
-// The holder of a dearer stand, at a place of a trader's list, went out before the trader: the holder's round.
-fn check_dearer(sheet: &[u8], trader: u16, stand: u16, place: u8) -> Result<u16, Refusal>
-    ensures { λ r. ⌜ r ≡ unless (later-fault (now (sheet .entry)) trader stand place) (round-in (now (sheet .entry)) stand) ⌝ }
+// The holder of a dearer stand, at a place of a trader's list, went out before the trader.
+fn later_fault(sheet: &[u8], trader: u16, stand: u16, place: u8) -> Option<Refusal>
+    ensures { λ r. ⌜ r ≡ later-fault (now (sheet .entry)) trader stand place ⌝ }
 {
-    let round = round_in(sheet, stand);
-    if round >= round_in(sheet, trader) {
-        return Err(Refusal::DearerLater { trader, place });
+    if round_in(sheet, stand) >= round_in(sheet, trader) {
+        return Some(Refusal::DearerLater { trader, place });
     }
-    Ok(round)
+    None
 }
 
 // Past its list, of `count` stands, a trader has got the own stand.
-fn check_own(sheet: &[u8], trader: u16, count: u8) -> Result<u16, Refusal>
-    ensures { λ r. ⌜ r ≡ unless (own-fault (now (sheet .entry)) trader count) (stand-in (now (sheet .entry)) trader) ⌝ }
+fn own_fault(sheet: &[u8], trader: u16, count: u8) -> Option<Refusal>
+    ensures { λ r. ⌜ r ≡ own-fault (now (sheet .entry)) trader count ⌝ }
 {
-    let got = stand_in(sheet, trader);
-    if got != trader {
-        return Err(Refusal::DearerLater {
+    if stand_in(sheet, trader) != trader {
+        return Some(Refusal::DearerLater {
             trader,
             place: count,
         });
     }
-    Ok(got)
+    None
 }
 
 // The holder of the stand that a trader got went out in the same round.
-fn check_holder(sheet: &[u8], trader: u16) -> Result<u16, Refusal>
-    ensures { λ r. ⌜ r ≡ unless (holder-fault (now (sheet .entry)) trader) (stand-in (now (sheet .entry)) trader) ⌝ }
+fn holder_fault(sheet: &[u8], trader: u16) -> Option<Refusal>
+    ensures { λ r. ⌜ r ≡ holder-fault (now (sheet .entry)) trader ⌝ }
 {
-    let got = stand_in(sheet, trader);
-    if round_in(sheet, got) != round_in(sheet, trader) {
-        return Err(Refusal::HolderElsewhere { trader });
+    let holder = stand_in(sheet, trader);
+    if round_in(sheet, holder) != round_in(sheet, trader) {
+        return Some(Refusal::HolderElsewhere { trader });
     }
-    Ok(got)
+    None
 }
 
 // How many stands the bytes of a list have.
@@ -86,53 +86,55 @@ fn count_of(list: &[u8]) -> u8
 }
 
 // The holders of the stands of a trader's list went out before the trader, up to the stand that it got.
-fn check_list(sheet: &[u8], list: &[u8], trader: u16) -> Result<u16, Refusal>
+fn dearer_fault(sheet: &[u8], list: &[u8], trader: u16) -> Option<Refusal>
     requires { ⌜ length (now list) ≤ 510 ⌝ }
-    ensures { λ r. ⌜ r ≡ unless (dearer-fault (now (sheet .entry)) trader (numbers (now (list .entry))) 0) (stand-in (now (sheet .entry)) trader) ⌝ }
+    ensures { λ r. ⌜ r ≡ dearer-fault (now (sheet .entry)) trader (numbers (now (list .entry))) 0 ⌝ }
 {
     let got = stand_in(sheet, trader);
     let count = count_of(list);
     for place in 0..count {
         let stand = number_at(list, 2 * place as usize);
         if stand == got {
-            return Ok(got);
+            return None;
         }
-        check_dearer(sheet, trader, stand, place)?;
+        if let Some(fault) = later_fault(sheet, trader, stand, place) {
+            return Some(fault);
+        }
     }
-    check_own(sheet, trader, count)
+    own_fault(sheet, trader, count)
 }
 
-// All that is checked of one trader: the stand that it got.
-fn check_trader(
-    sheet: &[u8],
-    n: u16,
-    list: &[u8],
-    trader: u16,
-    taken: &[u8],
-) -> Result<u16, Refusal>
+// All that is checked of one trader.
+fn trader_fault(sheet: &[u8], n: u16, list: &[u8], trader: u16, taken: &[u8]) -> Option<Refusal>
     requires { ⌜ n ≤ length (now taken) ⌝ ∗ ⌜ length (now list) ≤ 510 ⌝ }
-    ensures { λ r. ⌜ r ≡ unless (entry-fault (now (sheet .entry)) n trader (numbers (now (list .entry))) (eqb (getD (now (taken .entry)) (stand-in (now (sheet .entry)) trader) 0) 1)) (stand-in (now (sheet .entry)) trader) ⌝ }
+    ensures { λ r. ⌜ r ≡ entry-fault (now (sheet .entry)) n trader (numbers (now (list .entry))) (eqb (getD (now (taken .entry)) (stand-in (now (sheet .entry)) trader) 0) 1) ⌝ }
 {
-    read_stand(sheet, n, trader, taken)?;
-    check_list(sheet, list, trader)?;
-    check_holder(sheet, trader)
+    if let Some(fault) = taken_fault(sheet, n, trader, taken) {
+        return Some(fault);
+    }
+    if let Some(fault) = dearer_fault(sheet, list, trader) {
+        return Some(fault);
+    }
+    holder_fault(sheet, trader)
 }
 
-// Checks the entries of all traders, one after the other: the number of traders.
-fn check_traders(bytes: &[u8], sheet: &[u8], n: u16) -> Result<u16, Refusal>
+// The entries of all traders, one after the other.
+fn traders_fault(bytes: &[u8], sheet: &[u8], n: u16) -> Option<Refusal>
     requires accepted { ⌜ fault (now bytes) ≡ None ⌝ }
     requires count { ⌜ n ≡ number-at (now bytes) 0 ⌝ }
-    ensures { λ r. ⌜ r ≡ unless (traders-fault (lists-of (now (bytes .entry))) (now (sheet .entry)) 0 n) n ⌝ }
+    ensures { λ r. ⌜ r ≡ traders-fault (lists-of (now (bytes .entry))) (now (sheet .entry)) 0 n ⌝ }
 {
     let mut taken = [0u8; 4000];
     let mut at = 2;
     for trader in 0..n {
         let list = list_at(bytes, at);
-        let got = check_trader(sheet, n, list, trader, &taken)?;
-        taken[got as usize] = TAKEN;
+        if let Some(fault) = trader_fault(sheet, n, list, trader, &taken) {
+            return Some(fault);
+        }
+        taken[stand_in(sheet, trader) as usize] = TAKEN;
         at += 1 + list.len();
     }
-    Ok(n)
+    None
 }
 
 // Checks a sheet against the lists of a year: the number of traders, or the first fault.
@@ -151,8 +153,13 @@ fn check_accepted(bytes: &[u8], sheet: &[u8], n: u16) -> Result<u16, Refusal>
     ensures answer { λ r. ⌜ r ≡ unless (check-fault (now (bytes .entry)) (now (sheet .entry))) (number-at (now (bytes .entry)) 0) ⌝ }
     ensures says { λ r. ⌜ Checked (now (bytes .entry)) (now (sheet .entry)) r ⌝ }
 {
-    check_length(sheet, n)?;
-    check_traders(bytes, sheet, n)
+    if let Some(fault) = length_fault(sheet, n) {
+        return Err(fault);
+    }
+    match traders_fault(bytes, sheet, n) {
+        Some(fault) => Err(fault),
+        None => Ok(n),
+    }
 }
 
 // A sheet is accepted exactly if it is valid.

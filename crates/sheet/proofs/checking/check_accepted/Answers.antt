@@ -1,21 +1,23 @@
-use mathlib.Core.Path.{_≡_}
-use Rattle.std.proofs.shelf.Results.{err-from-errBy}
-use Rattle.lists.specs.Format.{number-at, unless}
-use Rattle.lists.proofs.Faults.{refused-fault, no-fault}
-use Rattle.sheet.specs.Sheet.{check-fault}
-use Rattle.sheet.proofs.Checked.{checked, length-wrong, length-right}
+use mathlib.Core.Path.{sym}
+use Rattle.std.specs.declared.result.Result.the-variants.{Ok, Err}
+use Rattle.sheet.proofs.Checked.{all-right, checked, length-wrong, trader-wrong}
 use Rattle.sheet.proofs.checking.check_accepted.Needs as need
 
-pub returns-in-Break-check-length : need.returns-in-Break-check-length
-returns-in-Break-check-length c =
-    let p = err-from-errBy (c .from-residual .result) (c .from-residual .ensures .1) in
-    let bad = length-wrong (c .args .bytes .now) (c .args .sheet .now) (c .args .n) (c .pre .accepted) (c .pre .traders) _ (refused-fault _ _ _ (c .in-Break-check-length .ensures tt)) in
-    let answer : c .from-residual .result ≡ unless (check-fault (c .args .bytes .now) (c .args .sheet .now)) (number-at (c .args .bytes .now) 0) = rw (p .1, p .2, bad) in
-    record { answer = answer; says = checked (c .args .bytes .now) (c .args .sheet .now) _ answer }
+pub returns-in-Some : need.returns-in-Some
+returns-in-Some c =
+    let f = c .in-Some .fault in
+    let answer = length-wrong (c .args .bytes .now) (c .args .sheet .now) (c .args .n) (c .pre .accepted) (c .pre .traders) f (sym (c .in-Some .ensures tt)) in
+    record { answer = answer; says = checked (c .args .bytes .now) (c .args .sheet .now) (Err f) answer }
 
-pub returns : need.returns
-returns c =
-    let sized = no-fault _ _ _ (c .in-Continue-check-length .ensures tt) in
-    let same = length-right (c .args .bytes .now) (c .args .sheet .now) (c .args .n) (c .pre .accepted) (c .pre .traders) (sized .0) in
-    let answer : c .check-traders .result ≡ unless (check-fault (c .args .bytes .now) (c .args .sheet .now)) (number-at (c .args .bytes .now) 0) = rw (same, ← c .pre .traders) (c .check-traders .ensures) in
-    record { answer = answer; says = checked (c .args .bytes .now) (c .args .sheet .now) _ answer }
+pub returns-in-Some-traders-fault : need.returns-in-Some-traders-fault
+returns-in-Some-traders-fault c =
+    let f = c .in-Some-traders-fault .fault in
+    let answer =
+    trader-wrong (c .args .bytes .now) (c .args .sheet .now) (c .args .n) (c .pre .accepted) (c .pre .traders) f (sym (c .in-rest .ensures tt)) (sym (c .in-Some-traders-fault .ensures tt)) in
+    record { answer = answer; says = checked (c .args .bytes .now) (c .args .sheet .now) (Err f) answer }
+
+pub returns-in-None : need.returns-in-None
+returns-in-None c =
+    let n = c .args .n in
+    let answer = all-right (c .args .bytes .now) (c .args .sheet .now) n (c .pre .accepted) (c .pre .traders) (sym (c .in-rest .ensures tt)) (sym (c .in-None .ensures tt)) in
+    record { answer = answer; says = checked (c .args .bytes .now) (c .args .sheet .now) (Ok n) answer }

@@ -3,7 +3,7 @@ use mathlib.Core.Path.{_≡_}
 use lib.ListN.{drop}
 use Rattle.lists.specs.Format.{numbers}
 use Rattle.sheet.specs.Sheet.{dearer-fault}
-use Rattle.sheet.proofs.checking.check_list.Given as given
+use Rattle.sheet.proofs.checking.dearer_fault.Given as given
 
 -- what is left of the list has the same first fault as the whole
 abbrev pub Inv-loop-place : given.InvT-loop-place

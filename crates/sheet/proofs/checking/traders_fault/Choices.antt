@@ -4,7 +4,7 @@ use lib.Dec.{eqb}
 use lib.ListN.{getD, length}
 use Rattle.lists.specs.Format.{lists-of, start}
 use Rattle.sheet.specs.Sheet.{got-before, traders-fault}
-use Rattle.sheet.proofs.checking.check_traders.Given as given
+use Rattle.sheet.proofs.checking.traders_fault.Given as given
 
 -- the traders left have the same first fault as all; the marks are those of the traders before; the list is at `at`
 abbrev pub Inv-loop-trader : given.InvT-loop-trader
