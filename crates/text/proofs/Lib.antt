@@ -1,3 +1,4 @@
-pub mod Texts
+pub mod Joined
+pub mod ReportText
 pub mod RingText
 pub mod PageText

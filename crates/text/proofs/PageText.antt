@@ -8,6 +8,7 @@ use lib.ListN.{getD}
 use Rattle.std.specs.Written.{decimal}
 use Rattle.std.proofs.shelf.Tests.{eq-eqb, ne-eqb}
 use Rattle.lists.specs.Format.{number-at}
+use Rattle.text.proofs.Joined.{two}
 use Rattle.text.specs.Page.{gone-lines, gone-text, got-text, head-text, page-of, ring-text, step-column, step-text, steps-text, width}
 use Rattle.papers.specs.Paper.{count-on, gone-on, holder-on, own-on, ring-length, ring-on, round-on, stand-on}
 
@@ -16,10 +17,6 @@ got-own own stand e = rw (eq-eqb stand own e)
 
 pub got-other : (own stand : ℕ) → (stand ≡ own → ⊥) → codes "You get stand " ++ decimal stand ≡ got-text own stand
 got-other own stand e = rw (ne-eqb stand own e)
-
--- one part after the other
-two : (a b c x y : List ℕ) → b ≡ a ++ x → c ≡ b ++ y → c ≡ a ++ (x ++ y)
-two a b c x y p q = q ∙ (ap (λ (xs : List ℕ). xs ++ y) p ∙ append-assoc a x y)
 
 pub head-joined : (own round stand : ℕ) (a b c d e f : List ℕ) → b ≡ a ++ (codes "Trader " ++ decimal own) → c ≡ b ++ codes "\n" → d ≡ c ++ got-text own stand →
     e ≡ d ++ (codes ", in round " ++ decimal round) → f ≡ e ++ codes ".\nRing: " → f ≡ a ++ head-text own round stand

@@ -13,7 +13,7 @@ use Rattle.theory.specs.Certificate.{steps}
 use Rattle.theory.specs.Trade.{Lists, result}
 use Rattle.theory.proofs.Finite.{Turning, stays, orbit, least-true, steps-add}
 use Rattle.theory.proofs.Promises.{result-below, result-apart}
-use Rattle.text.proofs.Texts.{ring-on-more}
+use Rattle.text.proofs.ReportText.{ring-on-more}
 use Rattle.text.specs.Report.{stand-got, ring-on, ring-from, Ring, RingWritten}
 
 module _ (rs : List ℕ) (f : ℕ → ℕ) (i j : ℕ) (goes : (k : ℕ) → k ≤ j → stand-got rs (steps f k i) ≡ steps f (suc k) i) (home : steps f (suc j) i ≡ i) (not-yet : (h : ℕ) → h < j → steps f (suc h) i ≡ i → ⊥) where

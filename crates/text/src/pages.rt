@@ -1,13 +1,12 @@
 // The readable page of a trader's paper.
-ghost use Prim.Native.Nat.{_+_, _*_, _-_, _<_, _≤_};
+ghost use Prim.Native.Nat.{_≤_};
 ghost use mathlib.Core.List.{_++_};
 ghost use mathlib.Core.Path.{_≡_};
 ghost use Rattle.std.specs.Of.String.{string-bytes};
 ghost use Rattle.std.specs.Vec.{made};
-ghost use Rattle.std.specs.Written.{decimal};
-ghost use Rattle.lists.specs.Format.{number-at};
 ghost use Rattle.text.specs.Page.{fits, gone-lines, gone-text, got-text, head-text, page-of, ring-text, step-column, step-text, width};
 ghost use Rattle.papers.specs.Paper.{count-on, own-on, ring-length};
+use crate::words::push_word;
 use lists::bytes::byte_at;
 use lists::bytes::number_at;
 use std::alloc::AllocError;
@@ -27,17 +26,7 @@ fn width(number: u16) -> usize
     }
 }
 
-// Appends a text and a number. Where memory fails nothing is said of the text, here and below.
-fn push_word(text: &mut String, word: &str, number: u16) -> Result<(), AllocError>
-    ensures { λ r. ⌜ made r (λ _. string-bytes (now (text .exit)) ≡ string-bytes (now (text .entry)) ++ (now (word .entry) ++ decimal number)) ⌝ }
-{
-    match write!(text, "{word}{number}") {
-        Ok(()) => Ok(()),
-        Err(_) => Err(AllocError),
-    }
-}
-
-// Appends what the trader got.
+// Appends what the trader got. Where memory fails nothing is said of the text, here and below.
 fn push_got(text: &mut String, own: u16, stand: u16) -> Result<(), AllocError>
     ensures { λ r. ⌜ made r (λ _. string-bytes (now (text .exit)) ≡ string-bytes (now (text .entry)) ++ got-text own stand) ⌝ }
 {
@@ -45,7 +34,7 @@ fn push_got(text: &mut String, own: u16, stand: u16) -> Result<(), AllocError>
         text.push_str("You keep your stand")?;
         return Ok(());
     }
-    push_word(text, "You get stand ", stand)?;
+    push_word(text, "You get stand ", stand as usize)?;
     Ok(())
 }
 
@@ -53,10 +42,10 @@ fn push_got(text: &mut String, own: u16, stand: u16) -> Result<(), AllocError>
 fn push_head(text: &mut String, own: u16, round: u16, stand: u16) -> Result<(), AllocError>
     ensures { λ r. ⌜ made r (λ _. string-bytes (now (text .exit)) ≡ string-bytes (now (text .entry)) ++ head-text own round stand) ⌝ }
 {
-    push_word(text, "Trader ", own)?;
+    push_word(text, "Trader ", own as usize)?;
     text.push_str("\n")?;
     push_got(text, own, stand)?;
-    push_word(text, ", in round ", round)?;
+    push_word(text, ", in round ", round as usize)?;
     text.push_str(".\nRing: ")?;
     Ok(())
 }
@@ -75,10 +64,10 @@ fn push_step(text: &mut String, column: usize, trader: u16) -> Result<usize, All
     ensures { λ r. ⌜ made r (λ c. (string-bytes (now (text .exit)) ≡ string-bytes (now (text .entry)) ++ step-text column trader) × (c ≡ step-column column trader) × (c ≤ 72)) ⌝ }
 {
     if fits(column, trader) {
-        push_word(text, " -> ", trader)?;
+        push_word(text, " -> ", trader as usize)?;
         return Ok(column + 4 + width(trader));
     }
-    push_word(text, "\n-> ", trader)?;
+    push_word(text, "\n-> ", trader as usize)?;
     Ok(3 + width(trader))
 }
 
@@ -88,7 +77,7 @@ fn push_ring(text: &mut String, paper: &[u8], own: u16) -> Result<(), AllocError
     ensures { λ r. ⌜ made r (λ _. string-bytes (now (text .exit)) ≡ string-bytes (now (text .entry)) ++ ring-text (now (paper .entry))) ⌝ }
 {
     let members = number_at(paper, 6);
-    push_word(text, "", own)?;
+    push_word(text, "", own as usize)?;
     let mut column = 6 + width(own);
     for k in 1..members {
         column = push_step(text, column, number_at(paper, 8 + 2 * k as usize))?;

@@ -1,14 +1,14 @@
 // The text that the program prints of an exchange's results.
-ghost use Prim.Native.Nat.{ℕ, _+_, _-_, _<_};
+ghost use Prim.Native.Nat.{ℕ, _-_};
 ghost use Rattle.text.specs.Report.{stand-got, keeps, more, moved, ring-on, ring-from, ring-text, line-of, lines-of, head-of, report-of, RingWritten};
 ghost use Rattle.std.specs.Of.String.{string-bytes};
 ghost use Rattle.std.specs.Vec.{made};
-ghost use Rattle.std.specs.Written.{decimal};
 ghost use lib.Dec.{ltb};
 ghost use lib.ListN.{length};
 ghost use mathlib.Core.Bool.{not};
-ghost use mathlib.Core.List.{List, [], _∷_, _++_};
+ghost use mathlib.Core.List.{List, _++_};
 ghost use mathlib.Core.Path.{_≡_};
+use crate::words::push_word;
 use std::alloc::AllocError;
 
 // How many traders of a ring are written.
@@ -53,34 +53,7 @@ fn left_out(length: usize) -> usize
     if length > SHOWN { length - SHOWN } else { 0 }
 }
 
-// Appends a digit. Where memory fails nothing is said of the text, here and below.
-fn push_digit(text: &mut String, digit: usize) -> Result<(), AllocError>
-    requires { ⌜ digit < 10 ⌝ }
-    ensures { λ r. ⌜ made r (λ _. string-bytes (now (text .exit)) ≡ string-bytes (now (text .entry)) ++ ((48 + digit) ∷ [])) ⌝ }
-{
-    text.push((b'0' + digit as u8) as char)
-}
-
-// Appends a number, digit by digit: with `write!` a report takes more than twice as long.
-fn push_number(text: &mut String, number: usize) -> Result<(), AllocError>
-    ensures { λ r. ⌜ made r (λ _. string-bytes (now (text .exit)) ≡ string-bytes (now (text .entry)) ++ decimal number) ⌝ }
-{
-    if number < 10 {
-        return push_digit(text, number);
-    }
-    push_number(text, number / 10)?;
-    push_digit(text, number % 10)
-}
-
-// Appends a word and a number.
-fn push_word(text: &mut String, word: &str, number: usize) -> Result<(), AllocError>
-    ensures { λ r. ⌜ made r (λ _. string-bytes (now (text .exit)) ≡ string-bytes (now (text .entry)) ++ (now (word .entry) ++ decimal number)) ⌝ }
-{
-    text.push_str(word)?;
-    push_number(text, number)
-}
-
-// Appends how many of a ring are left out, if any are.
+// Appends how many of a ring are left out, if any are. Where memory fails nothing is said of the text, here and below.
 fn push_more(text: &mut String, rest: usize) -> Result<(), AllocError>
     ensures { λ r. ⌜ made r (λ _. string-bytes (now (text .exit)) ≡ string-bytes (now (text .entry)) ++ more rest) ⌝ }
 {

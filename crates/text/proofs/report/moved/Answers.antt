@@ -2,7 +2,7 @@ use mathlib.Core.Path.{sym}
 use native.Mathlib.Omega.{arith}
 use Rattle.std.proofs.shelf.Tests.{not-true, not-false}
 use Rattle.text.specs.Report.{keeps, moved}
-use Rattle.text.proofs.Texts.{moved-end, moved-counts, moved-passes}
+use Rattle.text.proofs.ReportText.{moved-end, moved-counts, moved-passes}
 use Rattle.text.proofs.report.moved.Needs as need
 use Rattle.text.proofs.report.moved.Needs.{then-moves, else-moves}
 

@@ -4,7 +4,8 @@ use lib.Chars.{codes}
 use Rattle.std.specs.Of.String.{string-bytes}
 use Rattle.std.specs.Written.{decimal}
 use Rattle.text.specs.Report.{head-of, newline}
-use Rattle.text.proofs.Texts.{pushed, head-joined}
+use Rattle.text.proofs.Joined.{pushed}
+use Rattle.text.proofs.ReportText.{head-joined}
 use Rattle.text.proofs.report.push_head.Needs as need
 
 pub returns : need.returns

@@ -4,7 +4,8 @@ use lib.Chars.{codes}
 use Rattle.std.specs.Of.String.{string-bytes}
 use Rattle.std.specs.Written.{decimal}
 use Rattle.text.specs.Report.{line-of, newline}
-use Rattle.text.proofs.Texts.{pushed, line-keeps, line-gets}
+use Rattle.text.proofs.Joined.{pushed}
+use Rattle.text.proofs.ReportText.{line-keeps, line-gets}
 use Rattle.text.proofs.report.push_line.Needs as need
 
 pub returns-then-keeps : need.returns-then-keeps

@@ -1,12 +1,12 @@
 use mathlib.Core.Path.{_≡_, ap, _∙_}
-use mathlib.Core.List.{List, _++_, append-assoc, append-nil}
+use mathlib.Core.List.{_++_, append-assoc, append-nil}
 use lib.ListN.{length}
 use native.Mathlib.Omega.{arith}
-use Prim.Native.Nat.{ℕ, _+_}
+use Prim.Native.Nat.{_+_}
 use native.Mathlib.Numerals.{add-one}
 use Rattle.std.specs.Of.String.{string-bytes}
 use Rattle.text.specs.Report.{lines-of}
-use Rattle.text.proofs.Texts.{lines-more}
+use Rattle.text.proofs.ReportText.{lines-more}
 use Rattle.text.proofs.report.push_lines.Needs as need
 
 pub loop-trader-holds : need.loop-trader-holds

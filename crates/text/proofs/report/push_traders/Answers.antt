@@ -7,7 +7,7 @@ use lib.ListN.{length, take}
 use Rattle.std.specs.Of.String.{string-bytes}
 use Rattle.std.proofs.shelf.Tests.{ltb-true, ltb-false}
 use Rattle.text.specs.Report.{ring-on, spaced}
-use Rattle.text.proofs.Texts.{Wrote, ring-goes, ring-ends, ring-on-none, count-goes, text-goes, text-ends, ring-told}
+use Rattle.text.proofs.ReportText.{Wrote, ring-goes, ring-ends, ring-on-none, count-goes, text-goes, text-ends, ring-told}
 use Rattle.text.proofs.report.push_traders.Needs as need
 use Rattle.text.proofs.report.push_traders.Needs.{Joined-is-written, then-is-written·in-Continue-push-word, else-is-written}
 

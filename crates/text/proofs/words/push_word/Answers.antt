@@ -1,8 +1,8 @@
 use mathlib.Core.List.{_++_}
 use Rattle.std.specs.Of.String.{string-bytes}
 use Rattle.std.specs.Written.{decimal}
-use Rattle.text.proofs.Texts.{pushed-on, word-joined}
-use Rattle.text.proofs.report.push_word.Needs as need
+use Rattle.text.proofs.Joined.{pushed-on, word-joined}
+use Rattle.text.proofs.words.push_word.Needs as need
 
 pub returns : need.returns
 returns c =

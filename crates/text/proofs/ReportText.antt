@@ -1,9 +1,9 @@
--- One more trader counted, and one more of a ring written.
+-- How the text of a report grows: one more trader counted, one more of a ring written, one more line.
 use mathlib.Core.Path.{_≡_, ap, _∙_}
 use mathlib.Core.Bool.{true, false, cond}
 use mathlib.Core.List.{List, [], _∷_, _++_, append-assoc, append-nil}
 use mathlib.Core.Logic.{_⊎_, inl, inr}
-use Prim.Native.Nat.{ℕ, suc, _+_, _-_, _/_, _%_, _^_, _≤_, _<_}
+use Prim.Native.Nat.{ℕ, suc, _+_, _-_, _≤_, _<_}
 use native.Mathlib.Numerals.{add-one}
 use native.Mathlib.Omega.{arith}
 use lib.Chars.{codes}
@@ -11,14 +11,10 @@ use lib.Dec.{eqb}
 use lib.ListN.{length, take, drop}
 use lib.Seq.{drop-cons, take-nil}
 use Rattle.std.specs.Written.{decimal}
-use Rattle.std.proofs.shelf.Decimals.{decimal-step}
 use Rattle.std.proofs.shelf.Lists.{drop-all}
 use Rattle.std.proofs.shelf.Tests.{eq-eqb, ne-eqb}
-use Rattle.std.specs.declared.result.Result.{Result}
-use Rattle.std.specs.declared.result.Result.the-variants.{Ok, Err}
-use Rattle.std.specs.Results.{isOk}
-use Rattle.std.specs.Vec.{made}
-use Rattle.text.specs.Report.{stand-got, keeps, moved, moved-from, ring-on, ring-from, ring-text, spaced, more, newline, line-of, lines-of, head-of, report-of}
+use Rattle.text.proofs.Joined.{two}
+use Rattle.text.specs.Report.{stand-got, keeps, moved, moved-from, ring-on, ring-from, ring-text, spaced, more, newline, line-of, lines-of, head-of}
 
 -- the count at a place, and at the next
 pub moved-more : (xs : List ℕ) (i j : ℕ) → j ≡ suc i → i < length xs →
@@ -69,24 +65,6 @@ pub text-ends : (k : ℕ) (text whole : List ℕ) → text ++ spaced (take k [])
 unfolding spaced
 text-ends k text whole h = rw (take-nil k, append-nil text) at h
 
--- a call that ends with an append, whether memory sufficed or not
-pub pushed : {E : Type 0} (r : Result Unit E) (old new word whole : List ℕ) → new ≡ cond (isOk r) (old ++ word) old → old ++ word ≡ whole →
-    made r (λ _. new ≡ whole)
-pushed (Ok u) old new word whole e d = e ∙ d
-pushed (Err f) old new word whole e d = tt
-
-pub pushed-on : {E : Type 0} (r : Result Unit E) (old new word whole : List ℕ) → made r (λ _. new ≡ old ++ word) → old ++ word ≡ whole →
-    made r (λ _. new ≡ whole)
-pushed-on (Ok u) old new word whole e d = e ∙ d
-pushed-on (Err f) old new word whole e d = tt
-
--- the last digit after the others
-pub number-joined : (text one : List ℕ) (n : ℕ) → 10 ≤ n → n < 2 ^ 64 → one ≡ text ++ decimal (n / 10) → one ++ ((48 + n % 10) ∷ []) ≡ text ++ decimal n
-number-joined text one n l h e = rw (e, decimal-step n l h) (append-assoc text (decimal (n / 10)) ((48 + n % 10) ∷ []))
-
-pub word-joined : (text one word : List ℕ) (n : ℕ) → one ≡ text ++ word → one ++ decimal n ≡ text ++ (word ++ decimal n)
-word-joined text one word n e = rw e (append-assoc text word (decimal n))
-
 pub head-joined : (text : List ℕ) (rounds : ℕ) (rs one two : List ℕ) → one ≡ text ++ (codes "rounds " ++ decimal rounds) →
     two ≡ one ++ (codes " moved " ++ decimal (moved rs)) → two ++ newline ≡ text ++ head-of rounds rs
 unfolding head-of
@@ -108,10 +86,10 @@ unfolding ring-text
 ring-told text ring one m e d = rw (e, d) (simp append-assoc)
 
 -- one more line
-pub lines-more : (text rs one two : List ℕ) (k j : ℕ) → j ≡ suc k → one ≡ text ++ lines-of rs k → two ≡ one ++ line-of rs k →
-    two ≡ text ++ lines-of rs j
+pub lines-more : (text rs one new : List ℕ) (k j : ℕ) → j ≡ suc k → one ≡ text ++ lines-of rs k → new ≡ one ++ line-of rs k →
+    new ≡ text ++ lines-of rs j
 unfolding lines-of
-lines-more text rs one two k j e p q = rw (e, q, p) (simp append-assoc)
+lines-more text rs one new k j e p q = rw e (two text one new (lines-of rs k) (line-of rs k) p q)
 
 pub moved-passes : (xs : List ℕ) (i count all : ℕ) → i < length xs → keeps xs i ≡ true → count + moved-from i (drop i xs) ≡ all →
     count + moved-from (i + 1) (drop (i + 1) xs) ≡ all

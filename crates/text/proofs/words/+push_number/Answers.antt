@@ -5,8 +5,8 @@ use native.Mathlib.Omega.{arith}
 use Rattle.std.specs.Of.String.{string-bytes}
 use Rattle.std.specs.Written.{decimal}
 use Rattle.std.proofs.shelf.Decimals.{decimal-digit}
-use Rattle.text.proofs.Texts.{pushed-on, number-joined}
-use Rattle.text.proofs.report.+push_number.Needs as need
+use Rattle.text.proofs.Joined.{pushed-on, number-joined}
+use Rattle.text.proofs.words.+push_number.Needs as need
 
 pub returns-then-number-lt10 : need.returns-then-number-lt10
 returns-then-number-lt10 t c =
