@@ -1,11 +1,14 @@
--- The readable page of a paper, as bytes. No line of a page whose traders have numbers below 4,000 is longer than 72 columns.
+-- The readable page of a paper, as bytes, and how wide its lines are.
+use mathlib.Core.Path.{_≡_}
 use mathlib.Core.Bool.{Bool, cond}
 use mathlib.Core.List.{List, [], _++_}
-use Prim.Native.Nat.{ℕ, zero, suc, _+_, _-_}
+use Prim.Native.Nat.{ℕ, zero, suc, _+_, _-_, _≤_, _<_}
 use lib.Chars.{codes}
 use lib.Dec.{eqb, ltb}
-use lib.ListN.{length}
+use lib.ListN.{length, getD}
 use Rattle.std.specs.Written.{decimal}
+use Rattle.std.specs.declared.option.Option.the-variants.{None}
+use Rattle.papers.specs.Faults.{paper-check-fault}
 use Rattle.papers.specs.Paper.{count-on, gone-on, holder-on, own-on, ring-length, ring-on, round-on, stand-on}
 
 -- how many columns a number takes
@@ -54,3 +57,25 @@ gone-lines paper (suc j) = gone-lines paper j ++ gone-text (holder-on paper j) (
 -- The page of a paper.
 unfoldable pub page-of : List ℕ → List ℕ
 page-of paper = head-text (own-on paper) (round-on paper) (stand-on paper) ++ (ring-text paper ++ gone-lines paper (count-on paper))
+
+-- ---- the width of its lines
+
+-- each is a byte
+abbrev pub Bytes : List ℕ → Type 0
+Bytes bs = (k : ℕ) → k < length bs → getD bs k 0 < 256
+
+-- it has no newline, the byte 10
+abbrev pub No-newline : List ℕ → Type 0
+No-newline part = (k : ℕ) → k < length part → getD part k 0 ≡ 10 → ⊥
+
+-- No line of a text has more than `most` columns: no part of it without a newline is longer.
+abbrev pub Narrow : ℕ → List ℕ → Type 0
+Narrow most text = (before part after : List ℕ) → text ≡ before ++ (part ++ after) → No-newline part → length part ≤ most
+
+-- No line of the page of a paper that passes has more than 72 columns, whatever list it passes with.
+unfoldable pub Pages-are-narrow : Type 0
+Pages-are-narrow = (list paper : List ℕ) → Bytes paper → paper-check-fault list paper ≡ None → Narrow 72 (page-of paper)
+
+-- The page of any bytes has no line of more than 74: a holder's number, which a line names twice, may then have five digits.
+unfoldable pub Pages-of-any-bytes : Type 0
+Pages-of-any-bytes = (paper : List ℕ) → Bytes paper → Narrow 74 (page-of paper)

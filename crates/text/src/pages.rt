@@ -4,14 +4,14 @@ ghost use mathlib.Core.List.{_++_};
 ghost use mathlib.Core.Path.{_≡_};
 ghost use Rattle.std.specs.Of.String.{string-bytes};
 ghost use Rattle.std.specs.Vec.{made};
-ghost use Rattle.text.specs.Page.{fits, gone-lines, gone-text, got-text, head-text, page-of, ring-text, step-column, step-text, width};
+ghost use Rattle.text.specs.Page.{Pages-are-narrow, Pages-of-any-bytes, fits, gone-lines, gone-text, got-text, head-text, page-of, ring-text, step-column, step-text, width};
 ghost use Rattle.papers.specs.Paper.{count-on, own-on, ring-length};
 use crate::words::push_word;
 use lists::bytes::byte_at;
 use lists::bytes::number_at;
 use std::alloc::AllocError;
 
-// No line is longer.
+// No line of a page is wider where its paper passes.
 const COLUMNS: usize = 72;
 
 // How many columns a number takes.
@@ -125,6 +125,20 @@ pub fn push_page(text: &mut String, paper: &[u8]) -> Result<(), AllocError>
     Ok(())
 }
 
+// No line of the page of a paper that passes is wider than 72 columns.
+pub fn pages_are_narrow() -> u8
+    ensures { λ _. ⌜ Pages-are-narrow ⌝ }
+{
+    0
+}
+
+// No line of the page of any bytes is wider than 74 columns.
+pub fn pages_of_any_bytes() -> u8
+    ensures { λ _. ⌜ Pages-of-any-bytes ⌝ }
+{
+    0
+}
+
 #[cfg(test)]
 mod tests {
     use super::push_page;
@@ -147,6 +161,48 @@ mod tests {
         check_eq(
             text.as_str(),
             "Trader 1\nYou get stand 2, in round 0.\nRing: 1 -> 2 -> 1\n",
+        )
+    }
+
+    // the ring's first line has 72 columns, and the step back to the own trader does not fit on it
+    #[test]
+    fn page_of_a_long_ring(rt: LibcRuntime) -> Result<(), Fail> {
+        let mut text = String::new(rt.alloc());
+        push_page(
+            &mut text,
+            &[
+                232,
+                3,
+                0,
+                0,
+                233,
+                3,
+                9,
+                0,
+                232,
+                3,
+                233,
+                3,
+                234,
+                3,
+                235,
+                3,
+                236,
+                3,
+                237,
+                3,
+                238,
+                3,
+                239,
+                3,
+                42,
+                0,
+                0,
+            ],
+        )?;
+        check_eq(
+            text.as_str(),
+            "Trader 1000\nYou get stand 1001, in round 0.\nRing: 1000 -> 1001 -> 1002 -> 1003 -> 1004 -> 1005 -> 1006 -> 1007 -> 42\n-> 1000\n",
         )
     }
 }
