@@ -2,7 +2,7 @@
 mod options;
 mod output;
 
-ghost use Rattle.rounds.specs.Report.{report-of};
+ghost use Rattle.text.specs.Report.{report-of};
 ghost use Rattle.std.specs.Of.String.{string-bytes};
 ghost use Rattle.std.specs.Of.Vec.{vec-items};
 ghost use Rattle.std.specs.Vec.{made};
@@ -17,14 +17,14 @@ use lists::refusals::Refusal;
 use options::Command;
 use options::Options;
 use output::write_whole;
-use papers::pages::push_page;
 use papers::splitting::first_size;
 use papers::writing::paper;
-use rounds::report::push_report;
 use rounds::running::Exchanged;
 use sheet::exchanging::exchange;
 use std::alloc::AllocError;
 use std::alloc::Global;
+use text::pages::push_page;
+use text::report::push_report;
 
 // The longest lists that can be accepted have 2 + 4000 * (1 + 2 * 40) bytes; one byte more tells a file that is too long.
 const MOST_BYTES: u64 = 324_003;

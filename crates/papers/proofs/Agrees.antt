@@ -56,16 +56,16 @@ dearer-right paper (t ∷ ts) j (suc k) q e h is =
     dearer-right paper ts (suc j) k q (rest .1) (omega arith) (omega arith)
 
 -- A paper that hangs together, for a list with the stands l.
-record Whole (l paper : List ℕ) : Type 0 where
-  listed : (stand-on paper ≡ own-on paper) ⊎ (member (stand-on paper) l ≡ true)
-  some : 0 < ring-length paper
-  alone : (stand-on paper ≡ own-on paper → ⊥) → ring-length paper ≡ 1 → ⊥
-  placed : (k : ℕ) → k < ring-length paper → in-place paper k ≡ true
-  count : count-on paper ≡ length (dearer-than (stand-on paper) l)
-  dearer : (j : ℕ) → j < length (dearer-than (stand-on paper) l) →
+pub record Whole (l paper : List ℕ) : Type 0 where
+  pub listed : (stand-on paper ≡ own-on paper) ⊎ (member (stand-on paper) l ≡ true)
+  pub some : 0 < ring-length paper
+  pub alone : (stand-on paper ≡ own-on paper → ⊥) → ring-length paper ≡ 1 → ⊥
+  pub placed : (k : ℕ) → k < ring-length paper → in-place paper k ≡ true
+  pub count : count-on paper ≡ length (dearer-than (stand-on paper) l)
+  pub dearer : (j : ℕ) → j < length (dearer-than (stand-on paper) l) →
       (holder-on paper j ≡ getD (dearer-than (stand-on paper) l) j 0) × (gone-on paper j < round-on paper)
 
-whole : (l paper : List ℕ) → fields-fault l paper ≡ None → Whole l paper
+pub whole : (l paper : List ℕ) → fields-fault l paper ≡ None → Whole l paper
 whole l paper e =
     let parts = no-fault-both (head-fault l paper) (or-else (ring-fault paper [] (ring-length paper) 0) (tail-fault paper (dearer-than (stand-on paper) l))) e in
     let front = no-fault-both (own-fault paper) (or-else (round-fault paper) (or-else (stand-fault l paper) (length-fault paper))) (parts .0) in

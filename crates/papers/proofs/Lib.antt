@@ -8,4 +8,3 @@ pub mod Orbits
 pub mod Fields
 pub mod Passes
 pub mod Agrees
-pub mod PageText

@@ -1,4 +1,3 @@
 pub mod Paper
 pub mod Faults
 pub mod Trust
-pub mod Page

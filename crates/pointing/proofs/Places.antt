@@ -8,21 +8,29 @@ use native.Mathlib.Omega.{arith}
 use native.Mathlib.Numerals.{add-one}
 use lib.Dec.{eqb}
 use lib.ListN.{length, getD, drop, length-drop}
-use Rattle.std.proofs.shelf.Tests.{cases-bool}
-use Rattle.std.proofs.shelf.Lists.{drop-more}
+use Rattle.std.proofs.shelf.Tests.{cases-bool, cases-lt, le-ltb, lt-ltb}
+use Rattle.std.proofs.shelf.Lists.{getD-past}
 use Rattle.lists.specs.Format.{number-at, numbers}
 use Rattle.lists.proofs.Positions.{numbers-none, numbers-step}
 use Rattle.theory.specs.Trade.{Standing, is-in, first-in}
 use Rattle.pointing.specs.declared.Pointing.{Pointing}
 use Rattle.pointing.specs.declared.Pointing.the-variants.{Listed, Own}
-use Rattle.pointing.specs.Pointing.{points-from, stand-of, First-at, Is-first, First-is-pointed-to}
+use Rattle.pointing.specs.Pointing.{holder-in, points-from, stand-of, First-at, Is-first, First-is-pointed-to}
+
+-- a stand past the last trader's has no holder
+pub holder-is : (inside : List ℕ) (t : ℕ) → holder-in inside t ≡ eqb (getD inside t 0) 1
+holder-is inside t =
+    elim (cases-lt t (length inside)) [
+      | inl below ↦ rw (lt-ltb t (length inside) below)
+      | inr past ↦ rw (le-ltb t (length inside) past, getD-past inside t 0 past)
+    ]
 
 -- one place of the list
 abbrev pub Step : List ℕ → List ℕ → ℕ → Pointing → Type 0
 Step inside xs p whole =
     2 * p + 1 < length xs →
     whole
-    ≡ cond (eqb (getD inside (number-at xs (2 * p)) 0) 1) (Listed p (number-at xs (2 * p)))
+    ≡ cond (holder-in inside (number-at xs (2 * p))) (Listed p (number-at xs (2 * p)))
     (points-from inside (numbers (drop (2 * (p + 1)) xs)) (p + 1))
 
 module _ (inside xs : List ℕ) (p : ℕ) (whole : Pointing) (so-far : points-from inside (numbers (drop (2 * p) xs)) p ≡ whole) where
@@ -37,9 +45,9 @@ module _ (inside xs : List ℕ) (p : ℕ) (whole : Pointing) (so-far : points-fr
       sym so-far ∙ rw (numbers-none (drop (2 * p) xs) few)
 
 pub next : (inside xs : List ℕ) (p t : ℕ) (whole : Pointing) → Step inside xs p whole → 2 * p + 1 < length xs →
-    t ≡ number-at xs (2 * p) → eqb (getD inside t 0) 1 ≡ false → points-from inside (numbers (drop (2 * (p + 1)) xs)) (p + 1) ≡ whole
+    t ≡ number-at xs (2 * p) → holder-in inside t ≡ false → points-from inside (numbers (drop (2 * (p + 1)) xs)) (p + 1) ≡ whole
 next inside xs p t whole st h is e =
-    let e′ : eqb (getD inside (number-at xs (2 * p)) 0) 1 ≡ false = rw is at e in
+    let e′ : holder-in inside (number-at xs (2 * p)) ≡ false = rw is at e in
     sym (st h ∙ rw e′)
 
 -- the stand pointed to is the exchange's
@@ -47,7 +55,8 @@ pub exchange-points : (s : Standing) (ts : List ℕ) (own p : ℕ) → stand-of 
 unfolding points-from first-in is-in
 exchange-points s [] own p = refl
 exchange-points s (t ∷ ts) own p =
-    elim (cases-bool (eqb (getD (s .inside) t 0) 1)) [ inl e ↦ rw e | inr e ↦ rw e (exchange-points s ts own (suc p)) ]
+    let h = holder-is (s .inside) t in
+    elim (cases-bool (eqb (getD (s .inside) t 0) 1)) [ inl e ↦ rw (h, e) | inr e ↦ rw (h, e) (exchange-points s ts own (suc p)) ]
 
 -- the same as `Is-first`, with the places counted from `from` on
 abbrev First-from : Standing → List ℕ → ℕ → Pointing → Type 0
@@ -62,7 +71,7 @@ later s t ts from (Listed p u) e (j, is, f) = (
   record {
     within = omega arith;
     there = f .there;
-    holder-in = f .holder-in;
+    still-in = f .still-in;
     before-out = λ k. elim k as (λ k. k < suc j → is-in s (getD (t ∷ ts) k 0) ≡ false) [ zero ↦ λ _. e | suc k ↦ λ h. f .before-out k (omega arith) ];
   },
 )
@@ -72,9 +81,10 @@ first-from : (s : Standing) (ts : List ℕ) (from : ℕ) → First-from s ts fro
 unfolding points-from is-in
 first-from s [] from = λ k h. absurd (omega arith)
 first-from s (t ∷ ts) from =
+    let h = holder-is (s .inside) t in
     elim (cases-bool (eqb (getD (s .inside) t 0) 1)) [
-      | inl e ↦ rw e (0, omega arith, record { within = omega arith; there = refl; holder-in = e; before-out = λ k h. absurd (omega arith) })
-      | inr e ↦ rw e (later s t ts from (points-from (s .inside) ts (suc from)) e (first-from s ts (suc from)))
+      | inl e ↦ rw (h, e) (0, omega arith, record { within = omega arith; there = refl; still-in = e; before-out = λ k h. absurd (omega arith) })
+      | inr e ↦ rw (h, e) (later s t ts from (points-from (s .inside) ts (suc from)) e (first-from s ts (suc from)))
     ]
 
 from-zero : (s : Standing) (ts : List ℕ) (r : Pointing) → First-from s ts 0 r → Is-first s ts r

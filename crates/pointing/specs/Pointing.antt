@@ -1,18 +1,22 @@
 -- What a trader who is in points to, and the place of that stand in the list.
 use mathlib.Core.Path.{_≡_}
-use mathlib.Core.Bool.{Bool, true, false, cond}
+use mathlib.Core.Bool.{Bool, true, false, cond, _&&_}
 use mathlib.Core.List.{List, [], _∷_}
 use Prim.Native.Nat.{ℕ, suc, _<_}
-use lib.Dec.{eqb}
+use lib.Dec.{eqb, ltb}
 use lib.ListN.{length, getD}
 use Rattle.theory.specs.Trade.{Standing, is-in, first-in}
 use Rattle.pointing.specs.declared.Pointing.{Pointing}
 use Rattle.pointing.specs.declared.Pointing.the-variants.{Listed, Own}
 
--- the first stand of a list whose holder is in (1), the places counted from `place` on
+-- the holder of stand t is in: there is such a trader, and its mark is 1
+abbrev pub holder-in : List ℕ → ℕ → Bool
+holder-in inside t = ltb t (length inside) && eqb (getD inside t 0) 1
+
+-- the first stand of a list whose holder is in, the places counted from `place` on
 unfoldable pub points-from : List ℕ → List ℕ → ℕ → Pointing
 points-from inside [] place = Own
-points-from inside (t ∷ ts) place = cond (eqb (getD inside t 0) 1) (Listed place t) (points-from inside ts (suc place))
+points-from inside (t ∷ ts) place = cond (holder-in inside t) (Listed place t) (points-from inside ts (suc place))
 
 -- the stand pointed to by the trader who holds stand own
 abbrev pub stand-of : ℕ → Pointing → ℕ
@@ -23,7 +27,7 @@ stand-of own Own = own
 pub record First-at (s : Standing) (ts : List ℕ) (p t : ℕ) : Type 0 where
   pub within : p < length ts
   pub there : getD ts p 0 ≡ t
-  pub holder-in : is-in s t ≡ true
+  pub still-in : is-in s t ≡ true
   pub before-out : (k : ℕ) → k < p → is-in s (getD ts k 0) ≡ false
 
 -- what is pointed to is the first listed stand whose holder is in; it is the own one where no such stand is listed

@@ -1,9 +1,7 @@
 // What a trader who is in points to: the dearest listed stand whose holder is in, or the own one.
-ghost use lib.Dec.{eqb};
-ghost use lib.ListN.{getD};
 ghost use mathlib.Core.Path.{_≡_};
 ghost use Rattle.lists.specs.Format.{numbers};
-ghost use Rattle.pointing.specs.Pointing.{points-from, stand-of, First-is-pointed-to};
+ghost use Rattle.pointing.specs.Pointing.{holder-in, points-from, stand-of, First-is-pointed-to};
 use lists::bytes::number_at;
 
 // the mark of a trader who is in
@@ -31,7 +29,7 @@ impl Pointing {
 
 // The holder of a stand is in. Nobody holds a stand past the last trader's.
 fn holder_in(inside: &[u16], stand: u16) -> bool
-    ensures { λ r. ⌜ r ≡ eqb (getD (now (inside .entry)) stand 0) 1 ⌝ }
+    ensures { λ r. ⌜ r ≡ holder-in (now (inside .entry)) stand ⌝ }
 {
     (stand as usize) < inside.len() && inside[stand as usize] == IN
 }

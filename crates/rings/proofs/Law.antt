@@ -10,32 +10,11 @@ use lib.ListN.{length, getD}
 use Rattle.std.proofs.shelf.Lists.{getD-past, getD-default}
 use Rattle.std.proofs.shelf.Counted.{getD-map-counting, length-map-counting}
 use Rattle.std.proofs.shelf.Tests.{cases-bool, cases-lt, lt-ltb, le-ltb, ne-eqb, both-ways}
+use Rattle.theory.proofs.Ranks.{points-in}
+use Rattle.theory.proofs.Walks.{in-below}
 use Rattle.theory.specs.Trade.{Lists, Standing, is-in, first-in, points, walk, comes-back, on-ring}
 use Rattle.rings.specs.Ring.{step, walk-along, back, on-ring-of, flag, ring-flags, answer}
 use Rattle.std.specs.declared.result.Result.the-variants.{Ok}
-
--- nobody past the last trader is in
-in-below : (s : Standing) (t : ℕ) → is-in s t ≡ true → t < length (s .inside)
-unfolding is-in
-in-below s t h =
-    elim (cases-lt t (length (s .inside))) [
-      | inl l ↦ l
-      | inr l ↦ absurd (both-ways true (sym h ∙ ap (λ v. eqb v 1) (getD-past (s .inside) t 0 l)) refl)
-    ]
-
--- a trader who is in points to one who is in
-first-in-in : (s : Standing) (ts : List ℕ) (i : ℕ) → is-in s i ≡ true → is-in s (first-in s ts i) ≡ true
-unfolding first-in
-first-in-in s [] i h = h
-first-in-in s (t ∷ ts) i h =
-    elim (cases-bool (is-in s t)) [
-      | inl e ↦ rw e e
-      | inr e ↦ rw e (first-in-in s ts i h)
-    ]
-
-points-in : (ls : Lists) (s : Standing) (i : ℕ) → is-in s i ≡ true → is-in s (points ls s i) ≡ true
-unfolding points
-points-in ls s i h = first-in-in s (getD ls i []) i h
 
 -- `next` says to whom each trader who is in points
 abbrev pub Follows : Lists → Standing → List ℕ → Type 0

@@ -43,8 +43,11 @@ answer next work =
     cond (eqb (length next) 0 || ltb 4000 (length next)) (Err WrongCount)
     (cond (ltb (length work) (2 * length next)) (Err (TooShort Work)) (Ok tt))
 
--- How the call leaves the work slice: a refusal changes nothing, and else the flags stand behind the n entries.
+-- the work slice with the flags behind the n entries
+abbrev pub with-flags : List ℕ → List ℕ → List ℕ
+with-flags next work = take (length next) work ++ (ring-flags (take (length next) work) next ++ drop (2 * length next) work)
+
+-- How the call leaves the work slice: a refusal changes nothing.
 abbrev pub left-by : Result Unit Refusal → List ℕ → List ℕ → List ℕ
 left-by (Err e) next work = work
-left-by (Ok u) next work =
-    take (length next) work ++ (ring-flags (take (length next) work) next ++ drop (2 * length next) work)
+left-by (Ok u) next work = with-flags next work

@@ -1,6 +1,6 @@
 // Who is on a ring: a walk from each trader to the holder of the stand that it points to, and on, may come back to it.
 ghost use Prim.Native.Nat.{_*_, _+_, _<_, _≤_};
-ghost use Rattle.rings.specs.Ring.{answer, left-by};
+ghost use Rattle.rings.specs.Ring.{answer, left-by, with-flags};
 ghost use Rattle.rings.specs.Walk.{Told, Walked, flag-of, flagged, has-mark, unmet};
 ghost use lib.ListN.{length, set};
 ghost use mathlib.Core.Path.{_≡_};
@@ -28,9 +28,19 @@ pub fn mark_rings(next: &[u16], work: &mut [u16]) -> Result<(), Refusal>
     if work.len() < 2 * n {
         return Err(Refusal::TooShort { lent: Lent::Work });
     }
+    flag_rings(next, work);
+    Ok(())
+}
+
+// Writes the flags: first marks in their place, which tell who is on a ring, and then what they say of those who are in.
+fn flag_rings(next: &[u16], work: &mut [u16])
+    requires most { ⌜ length (now next) ≤ 4000 ⌝ }
+    requires room { ⌜ 2 * length (now next) ≤ length (now work) ⌝ }
+    ensures { λ _. ⌜ now (work .exit) ≡ with-flags (now (next .entry)) (now (work .entry)) ⌝ }
+{
+    let n = next.len();
     mark_all(next, &mut work[n..2 * n]);
     turn_to_flags(work, n);
-    Ok(())
 }
 
 // Marks all traders, those on rings with RING. Each is met once, so the time grows with their number.

@@ -2,5 +2,3 @@ pub mod Pointed
 pub mod Taken
 pub mod Stands
 pub mod Law
-pub mod Texts
-pub mod RingText

@@ -1,3 +1,2 @@
-// The exchange as code, round by round, and the text of its report.
-pub mod report;
+// The exchange as code, round by round.
 pub mod running;
