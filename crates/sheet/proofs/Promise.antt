@@ -1,7 +1,6 @@
 -- The promise of the public exchange, from the theory of the exchange and from what was written.
 use mathlib.Core.Path.{_≡_, refl, sym, ap, _∙_}
-use mathlib.Core.Bool.{Bool, true}
-use mathlib.Core.List.{List, [], _∷_, _++_, map, append-assoc}
+use mathlib.Core.List.{List, [], _++_, append-assoc}
 use Prim.Native.Nat.{ℕ, zero, suc, _+_, _*_, _-_, _≤_, _<_}
 use native.Mathlib.Omega.{arith}
 use lib.ListN.{length, getD, set, drop, replicate, length-append}
@@ -12,18 +11,18 @@ use Rattle.std.proofs.shelf.Tests.{lt-ltb, ltb-true}
 use Rattle.std.proofs.shelf.Lists.{getD-append-left, set-getD, length-replicate, drop-at}
 use Rattle.std.proofs.shelf.Counted.{length-map-counting}
 use Rattle.lists.specs.Format.{bytes-of, fault, lists-of, number-at}
-use Rattle.theory.specs.Promise.{Proper, rank}
+use Rattle.theory.specs.Promise.{rank}
 use Rattle.theory.specs.Trade.{Lists, out, result}
 use Rattle.lists.proofs.Accepted.{accepted-proper}
 use Rattle.lists.proofs.Encoding.{writes-what-was-read}
 use Rattle.theory.proofs.Certificates.{turns}
 use Rattle.theory.proofs.Exchange.{certificate}
 use Rattle.theory.proofs.Finite.{preimage}
-use Rattle.theory.proofs.Promises.{rank-set-same, result-apart, result-below, result-own, result-truthful, result-unbettered}
+use Rattle.theory.proofs.Promises.{result-apart, result-below, result-own, result-truthful, result-unbettered}
 use Rattle.rounds.proofs.Law.{out-at, result-at}
 use Rattle.rounds.specs.Run.{outs-of, results-of}
 use Rattle.sheet.specs.Exchange.{Promised, entries}
-use Rattle.sheet.specs.Sheet.{entry, round-in, sheet-of, stand-in}
+use Rattle.sheet.specs.Sheet.{entry, sheet-of}
 use Rattle.sheet.proofs.Written.{length-sheet, round-written, stand-written}
 
 -- a number within the front of what was written

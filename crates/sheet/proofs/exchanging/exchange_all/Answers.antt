@@ -1,5 +1,5 @@
 use borrow.Author.Needs.{needs}
-use Prim.Native.Nat.{ℕ, _<_, _≤_, _*_}
+use Prim.Native.Nat.{ℕ, _<_, _*_}
 use mathlib.Core.List.{List, _++_}
 use mathlib.Core.Path.{_≡_, sym, ap, subst, _∙_}
 use lib.ListN.{length, getD, drop}
@@ -9,7 +9,6 @@ use Rattle.lists.proofs.Faults.{no-fault}
 use Rattle.lists.proofs.Positions.{count-of-lists}
 use Rattle.rounds.specs.Run.{results-of}
 use Rattle.sheet.specs.Exchange.{Promised}
-use Rattle.sheet.specs.Sheet.{sheet-of}
 use Rattle.sheet.proofs.Promise.{promised, sheet-end, work-end}
 use Rattle.sheet.proofs.exchanging.exchange_all.Needs as need
 
