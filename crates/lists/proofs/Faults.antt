@@ -131,6 +131,9 @@ no-marks zero t = omega arith
 no-marks (suc n) zero = omega arith
 no-marks (suc n) (suc t) = no-marks n t
 
+pub no-mark : (n t : ℕ) → eqb (getD (replicate n 0) t 0) 1 ≡ false
+no-mark n t = ne-eqb _ _ (λ e. let none = no-marks n t in omega arith)
+
 -- all bytes: the count, and then the lists
 pub count-wrong : (bs : List ℕ) (f : Refusal) → count-fault bs ≡ Some f → fault bs ≡ Some f
 count-wrong bs f e = ap (λ o. or-else o (lists-fault bs (number-at bs 0) 0 (number-at bs 0) 2)) e

@@ -14,7 +14,7 @@ use Rattle.lists.specs.declared.refusals.Refusal.{Refusal}
 use Rattle.lists.specs.Format.{fault, list-bytes, lists-of, next-start, number-at, numbers, or-else, start}
 use Rattle.theory.specs.Trade.{Lists}
 use Rattle.lists.proofs.Accepted.{list-within, no-fault-both, short-list}
-use Rattle.lists.proofs.Faults.{marks-set, no-marks}
+use Rattle.lists.proofs.Faults.{marks-set, no-mark}
 use Rattle.lists.proofs.Positions.{count-of-lists, length-of-part, list-is}
 use Rattle.sheet.specs.Sheet.{stand-in, got-before, taken-fault, dearer-fault, holder-fault, entry-fault, trader-fault, traders-fault}
 use Rattle.sheet.proofs.Checked.{no-fault-test}
@@ -49,7 +49,7 @@ entry-below sheet n i ts again e =
 -- the marks of the stands got before: none, and one more
 pub marks-none : (sheet : List ℕ) (n t : ℕ) → eqb (getD (replicate n 0) t 0) 1 ≡ got-before sheet 0 t
 unfolding got-before
-marks-none sheet n t = ne-eqb _ _ (λ e. let none = no-marks n t in omega arith)
+marks-none sheet n t = no-mark n t
 
 pub marks-more : (sheet taken : List ℕ) (i got : ℕ) → got ≡ stand-in sheet i → got < length taken →
     ((t : ℕ) → eqb (getD taken t 0) 1 ≡ got-before sheet i t) →

@@ -109,13 +109,9 @@ fn trader_fault(sheet: &[u8], n: u16, list: &[u8], trader: u16, taken: &[u8]) ->
     requires { ⌜ n ≤ length (now taken) ⌝ ∗ ⌜ length (now list) ≤ 510 ⌝ }
     ensures { λ r. ⌜ r ≡ entry-fault (now (sheet .entry)) n trader (numbers (now (list .entry))) (eqb (getD (now (taken .entry)) (stand-in (now (sheet .entry)) trader) 0) 1) ⌝ }
 {
-    if let Some(fault) = taken_fault(sheet, n, trader, taken) {
-        return Some(fault);
-    }
-    if let Some(fault) = dearer_fault(sheet, list, trader) {
-        return Some(fault);
-    }
-    holder_fault(sheet, trader)
+    taken_fault(sheet, n, trader, taken)
+        .or(dearer_fault(sheet, list, trader))
+        .or(holder_fault(sheet, trader))
 }
 
 // The entries of all traders, one after the other.
