@@ -1,10 +1,11 @@
 // Checking a paper, by itself and the trader's list. Bytes that are missing count as 0; their field is in fault.
-ghost use lib.ListN.{length};
+ghost use lib.Dec.{eqb};
+ghost use lib.ListN.{getD, length};
 ghost use mathlib.Core.List.{[]};
 ghost use mathlib.Core.Path.{_≡_};
 ghost use Rattle.lists.specs.Format.{member, numbers, unless};
-ghost use Rattle.papers.specs.Paper.{count-on, dearer-than, own-on, ring-length, stand-on};
-ghost use Rattle.papers.specs.Faults.{count-fault, dearer-fault, end-fault, field-fault, fields-fault, gone-fault, head-fault, holder-fault, in-place, length-fault, member-fault, own-fault, owner, paper-check-fault, ring-fault, round-fault, stand-fault, tail-fault};
+ghost use Rattle.papers.specs.Paper.{count-on, dearer-than, own-on, ring-length, ring-on, stand-on};
+ghost use Rattle.papers.specs.Faults.{count-fault, dearer-fault, end-fault, field-fault, fields-fault, gone-fault, head-fault, holder-fault, in-place, length-fault, member-fault, own-fault, paper-check-fault, ring-fault, round-fault, stand-fault, tail-fault};
 use crate::bytes::dearer_count;
 use lists::bytes::byte_at;
 use lists::bytes::number_at;
@@ -98,13 +99,16 @@ fn in_place(paper: &[u8], k: u16) -> bool
     }
 }
 
-// The trader at place k of the ring, of whom `again` says whether it was named before.
-fn member_fault(paper: &[u8], k: u16, again: bool) -> Option<Refusal>
-    ensures { λ r. ⌜ r ≡ member-fault (now (paper .entry)) k again ⌝ }
+// The trader at place k of the ring. `named` has 1 at the traders before it on the ring.
+fn member_fault(paper: &[u8], k: u16, named: &[u8]) -> Option<Refusal>
+    ensures { λ r. ⌜ r ≡ member-fault (now (paper .entry)) k (eqb (getD (now (named .entry)) (ring-on (now (paper .entry)) k) 0) 1) ⌝ }
 {
-    let k_at = 8 + 2 * k as usize;
-    let right = number_at(paper, k_at) < MOST_TRADERS && in_place(paper, k) && !again;
-    field_fault(paper, 4 + k as usize, k_at + 2, right)
+    let at = 8 + 2 * k as usize;
+    let trader = number_at(paper, at);
+    let right = trader < MOST_TRADERS
+        && in_place(paper, k)
+        && byte_at(named, trader as usize) != NAMED;
+    field_fault(paper, 4 + k as usize, at + 2, right)
 }
 
 // The traders of the ring: the own one first, then the holder of the stand got, and nobody twice.
@@ -114,12 +118,11 @@ fn ring_fault(paper: &[u8]) -> Option<Refusal>
     let members = number_at(paper, MEMBERS);
     let mut named = [0u8; 4000];
     for k in 0..members {
-        let trader = number_at(paper, 8 + 2 * k as usize) as usize;
-        let again = byte_at(&named, trader) == NAMED;
-        if let Some(fault) = member_fault(paper, k, again) {
+        if let Some(fault) = member_fault(paper, k, &named) {
             return Some(fault);
         }
-        named[trader] = NAMED;
+        let trader = number_at(paper, 8 + 2 * k as usize);
+        named[trader as usize] = NAMED;
     }
     None
 }
@@ -202,22 +205,13 @@ fn fields_fault(stands: &[u8], paper: &[u8]) -> Option<Refusal>
         .or(tail_fault(stands, paper))
 }
 
-// The trader whose list it has to be: nobody where the paper ends before its number does.
-fn owner(paper: &[u8]) -> u16
-    ensures { λ r. ⌜ r ≡ owner (now (paper .entry)) ⌝ }
-{
-    match number_in(paper, OWN) {
-        Some(own) => own,
-        None => MOST_TRADERS,
-    }
-}
-
 // Checks a paper by itself and the trader's list, which is its count's byte and its stands: hands on whose paper it is, or the
-// first fault of the list and then of the paper.
+// first fault of the list and then of the paper. Where the paper ends before its trader's number, the list may be anybody's.
 pub fn check_paper(list: &[u8], paper: &[u8]) -> Result<u16, Refusal>
     ensures { λ r. ⌜ r ≡ unless (paper-check-fault (now (list .entry)) (now (paper .entry))) (own-on (now (paper .entry))) ⌝ }
 {
-    let stands = read_list(list, owner(paper))?;
+    let own = number_in(paper, OWN).unwrap_or(MOST_TRADERS);
+    let stands = read_list(list, own)?;
     match fields_fault(stands, paper) {
         Some(fault) => Err(fault),
         None => Ok(number_at(paper, OWN)),

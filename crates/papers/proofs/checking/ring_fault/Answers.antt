@@ -3,8 +3,7 @@ use mathlib.Core.List.{[], _∷_}
 use mathlib.Core.Path.{_≡_, refl, sym, ap, _∙_}
 use native.Mathlib.Omega.{arith}
 use lib.Dec.{eqb}
-use lib.ListN.{length, length-set}
-use Rattle.lists.specs.Format.{member}
+use lib.ListN.{getD, length, length-set}
 use Rattle.lists.proofs.Faults.{marks-more, no-mark}
 use Rattle.papers.specs.Faults.{ring-fault}
 use Rattle.papers.specs.Paper.{ring-length, ring-on}
@@ -21,9 +20,8 @@ returns-in-Some c =
     let paper = c .args .paper .now in
     let k = c .loop-k .k in
     let left = c .number-at-members .result - k in
-    let again : eqb (c .byte-at-again .result) 1 ≡ member (ring-on paper k) (c .loop-k .inv .0) =
-    rw (c .byte-at-again .ensures, c .number-at-trader .ensures) (c .loop-k .inv .2 (ring-on paper k)) in
-    sym (ring-wrong paper (c .loop-k .inv .0) left k (ring-fault paper [] (ring-length paper) 0) (c .loop-k .inv .1) (eqb (c .byte-at-again .result) 1) again (c .in-Some .fault) (omega arith)
+    let again = eqb (getD (c .loop-k .named) (ring-on paper k) 0) 1 in
+    sym (ring-wrong paper (c .loop-k .inv .0) left k (ring-fault paper [] (ring-length paper) 0) (c .loop-k .inv .1) again (c .loop-k .inv .2 (ring-on paper k)) (c .in-Some .fault) (omega arith)
     (sym (c .in-Some .ensures tt)))
 
 pub loop-k-again : need.loop-k-again
@@ -33,13 +31,12 @@ loop-k-again c =
     let t = c .number-at-trader .result in
     let before = c .loop-k .inv .0 in
     let members = c .number-at-members .result in
-    let again : eqb (c .byte-at-again .result) 1 ≡ member (ring-on paper k) (c .loop-k .inv .0) =
-    rw (c .byte-at-again .ensures, c .number-at-trader .ensures) (c .loop-k .inv .2 (ring-on paper k)) in
+    let again = eqb (getD (c .loop-k .named) (ring-on paper k) 0) 1 in
     let none = sym (c .in-rest .ensures tt) in
-    let below = member-below paper k (eqb (c .byte-at-again .result) 1) none in
+    let below = member-below paper k again none in
     let within : t < length (c .loop-k .named) = omega (arith, c .number-at-trader .ensures, c .loop-k .inv .3) in (
       t ∷ before,
-      ring-next paper before (members - k) k (ring-fault paper [] (ring-length paper) 0) (c .loop-k .inv .1) (eqb (c .byte-at-again .result) 1) again t (members - (k + 1)) (c .number-at-trader .ensures) (omega arith) none,
+      ring-next paper before (members - k) k (ring-fault paper [] (ring-length paper) 0) (c .loop-k .inv .1) again (c .loop-k .inv .2 (ring-on paper k)) t (members - (k + 1)) (c .number-at-trader .ensures) (omega arith) none,
       marks-more (c .loop-k .named) 1 t within before (c .loop-k .inv .2),
       simp length-set (c .loop-k .inv .3),
     )
