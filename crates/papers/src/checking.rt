@@ -1,4 +1,5 @@
-// Checking a paper, by itself and the trader's list. Bytes that are missing count as 0; their field is in fault.
+// Checking a paper, by itself and the trader's list. A function `.._fault` tells the first fault, None where there is none. Bytes
+// that are missing count as 0, and their field is in fault.
 ghost use lib.Dec.{eqb};
 ghost use lib.ListN.{getD, length};
 ghost use mathlib.Core.List.{[]};

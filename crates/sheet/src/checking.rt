@@ -1,4 +1,4 @@
-// Checking anybody's sheet against the lists of a year.
+// Checking anybody's sheet against the lists of a year. A function `.._fault` tells the first fault, None where there is none.
 ghost use Prim.Native.Nat.{_/_, _≤_};
 ghost use lib.Dec.{eqb};
 ghost use lib.ListN.{length, getD};
@@ -16,8 +16,6 @@ use lists::refusals::Refusal;
 
 // the mark of a stand that a trader before got
 const TAKEN: u8 = 1;
-
-// Each of these functions tells the first fault, None where there is none.
 
 // The sheet has an entry for each trader, and no more.
 fn length_fault(sheet: &[u8], n: u16) -> Option<Refusal>
