@@ -1,18 +1,16 @@
 -- What is known once the sheet that the papers make was checked, and each paper beside it.
 use mathlib.Core.Path.{_≡_, refl, sym, ap, _∙_}
 use mathlib.Core.List.{List, _++_}
-use Prim.Native.Nat.{ℕ, _+_, _*_, _<_}
+use Prim.Native.Nat.{ℕ, _+_, _*_}
 use native.Mathlib.Omega.{arith}
-use lib.ListN.{length, take, drop}
+use lib.ListN.{take, drop}
 use Rattle.std.proofs.shelf.Lists.{take-at}
-use Rattle.std.specs.declared.option.Option.{Option}
 use Rattle.std.specs.declared.option.Option.the-variants.{Some, None}
 use Rattle.std.specs.declared.result.Result.{Result}
 use Rattle.std.specs.declared.result.Result.the-variants.{Ok, Err}
 use Rattle.lists.specs.Format as format
 use Rattle.lists.specs.Format.{lists-of, number-at}
 use Rattle.lists.proofs.Positions.{count-of-lists}
-use Rattle.sheet.specs.Check.{Checked}
 use Rattle.sheet.specs.Sheet.{check-fault}
 use Rattle.sheet.proofs.Checked.{checked}
 use Rattle.papers.specs.Paper.{paper-of}

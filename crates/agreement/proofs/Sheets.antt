@@ -1,14 +1,14 @@
 -- The sheet that the papers make: how it is written, and what is read on it.
-use mathlib.Core.Path.{_≡_, refl, sym, ap, _∙_}
-use mathlib.Core.List.{List, [], _∷_, _++_}
+use mathlib.Core.Path.{_≡_, refl, sym, _∙_}
+use mathlib.Core.List.{List, _++_}
 use mathlib.Core.Logic.{inl, inr}
 use Prim.Native.Nat.{ℕ, zero, suc, _+_, _*_, _≤_, _<_}
 use native.Mathlib.Numerals.{add-one}
 use native.Mathlib.Omega.{arith}
-use lib.ListN.{length, getD, drop, length-append}
+use lib.ListN.{length, drop, length-append}
 use Rattle.std.proofs.shelf.Lists.{getD-append-add, getD-append-left}
 use Rattle.std.proofs.shelf.Tests.{cases-eq}
-use Rattle.lists.specs.Format.{bytes-of, number-at}
+use Rattle.lists.specs.Format.{number-at}
 use Rattle.lists.proofs.Encoding.{number-of-bytes}
 use Rattle.sheet.specs.Exchange.{put-entry}
 use Rattle.sheet.specs.Sheet.{stand-in}

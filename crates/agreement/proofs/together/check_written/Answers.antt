@@ -1,7 +1,7 @@
 use Prim.Native.Nat.{ℕ}
 use mathlib.Core.List.{List}
-use mathlib.Core.Path.{_≡_, ap, _∙_}
-use lib.ListN.{length, replicate}
+use mathlib.Core.Path.{ap, _∙_}
+use lib.ListN.{replicate}
 use Rattle.lists.specs.Format.{lists-of}
 use Rattle.lists.proofs.Faults.{no-fault}
 use Rattle.papers.specs.Paper.{paper-of}

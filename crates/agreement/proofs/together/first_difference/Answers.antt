@@ -2,7 +2,6 @@ use Prim.Native.Nat.{_<_}
 use mathlib.Core.Path.{_≡_, sym, _∙_}
 use native.Mathlib.Omega.{arith}
 use lib.ListN.{length}
-use Rattle.agreement.specs.Agreement.{difference}
 use Rattle.agreement.proofs.Likeness.{both-end, differs-here, one-ends, same-here}
 use Rattle.agreement.proofs.together.first_difference.Needs as need
 
