@@ -6,7 +6,7 @@ use Prim.Native.Nat.{ℕ, zero, suc, _+_, _*_, _/_, _%_, _≤_, _<_}
 use native.Mathlib.Nat.{mod-add-div, mod-eq-of-lt, add-mul-mod-self-left}
 use native.Mathlib.Omega.{arith}
 use lib.ListN.{length, getD, take, drop}
-use Rattle.std.proofs.shelf.Lists.{length-append, length-drop, getD-default, getD-drop, drop-drop, drop-more, drop-all, take-at, drop-at, take-append-drop}
+use Rattle.std.proofs.shelf.Lists.{length-append, length-drop, getD-append-add, getD-default, getD-drop, drop-drop, drop-more, drop-all, take-at, drop-at, take-append-drop}
 use Rattle.std.proofs.shelf.Tests.{and-from, le-ltb, lt-ltb}
 use Rattle.std.specs.declared.option.Option.the-variants.{None}
 use Rattle.theory.specs.Promise.{Distinct, Proper}
@@ -26,6 +26,15 @@ bytes-of-number low high h =
     let first : (low + 256 * high) % 256 ≡ low = add-mul-mod-self-left low 256 high ∙ mod-eq-of-lt h in
     let second : (low + 256 * high) / 256 ≡ high = omega arith in
     rw (first, second)
+
+-- a byte and a number past a first part
+pub byte-after : (xs ys : List ℕ) (p q : ℕ) → q ≡ length xs + p → getD (xs ++ ys) q 0 ≡ getD ys p 0
+byte-after xs ys p q is = rw is (getD-append-add xs ys p 0)
+
+pub number-after : (xs ys : List ℕ) (p q : ℕ) → q ≡ length xs + p → number-at (xs ++ ys) q ≡ number-at ys p
+number-after xs ys p q is =
+    let e : length xs + p + 1 ≡ length xs + (p + 1) = omega arith in
+    rw (is, e, getD-append-add xs ys p 0, getD-append-add xs ys (p + 1) 0)
 
 -- what is written of a list, and what is read of that
 pub length-of-stands : (ts : List ℕ) → length (encode-stands ts) ≡ 2 * length ts

@@ -53,15 +53,20 @@ module _ (n own t : ℕ) (before : List ℕ) where
   pub listable : t < n → (t ≡ own → ⊥) → member t before ≡ false → may-list n own before t ≡ true
   listable h o m = grind arith
 
--- the marks of the stands of one list: one more
+-- the marks of those of whom a test holds, and one more
 module _ (seen : List ℕ) (mark t : ℕ) (below : t < length seen) where
-  pub marks-more : (before : List ℕ) → ((u : ℕ) → eqb (getD seen u 0) mark ≡ member u before) →
-      (u : ℕ) → eqb (getD (set seen t mark) u 0) mark ≡ member u (t ∷ before)
-  marks-more before m u =
+  pub marks-set : (test : ℕ → Bool) → ((u : ℕ) → eqb (getD seen u 0) mark ≡ test u) →
+      (u : ℕ) → eqb (getD (set seen t mark) u 0) mark ≡ (eqb t u || test u)
+  marks-set test m u =
       elim (cases-eq u t) [
         | inl e ↦ let same = getD-set-same seen t mark 0 below in grind arith
         | inr ne ↦ let other = getD-set-other seen t u mark 0 ne in let mu = m u in grind arith
       ]
+
+  -- the stands of one list
+  pub marks-more : (before : List ℕ) → ((u : ℕ) → eqb (getD seen u 0) mark ≡ member u before) →
+      (u : ℕ) → eqb (getD (set seen t mark) u 0) mark ≡ member u (t ∷ before)
+  marks-more before = marks-set (λ u. member u before)
 
   pub marks-bound : ((u : ℕ) → getD seen u 0 ≤ mark) → (u : ℕ) → getD (set seen t mark) u 0 ≤ mark
   marks-bound m u =
@@ -125,6 +130,9 @@ pub no-marks : (n t : ℕ) → getD (replicate n 0) t 0 ≤ 0
 no-marks zero t = omega arith
 no-marks (suc n) zero = omega arith
 no-marks (suc n) (suc t) = no-marks n t
+
+pub no-mark : (n t : ℕ) → eqb (getD (replicate n 0) t 0) 1 ≡ false
+no-mark n t = ne-eqb _ _ (λ e. let none = no-marks n t in omega arith)
 
 -- all bytes: the count, and then the lists
 pub count-wrong : (bs : List ℕ) (f : Refusal) → count-fault bs ≡ Some f → fault bs ≡ Some f

@@ -11,7 +11,7 @@ use Rattle.std.proofs.shelf.Lists.{append-nil, getD-default}
 use Rattle.std.proofs.shelf.Tests.{and-parts, both-ways, cases-bool, cases-eq, eq-eqb, eqb-true, ltb-true, ne-eqb, or-cases, not-true}
 use Rattle.std.specs.declared.option.Option.the-variants.{None}
 use Rattle.theory.specs.Certificate.{Valid-sheet, steps}
-use Rattle.lists.specs.Format.{Encodable, list-bytes, member, numbers, or-else}
+use Rattle.lists.specs.Format.{Encodable, list-bytes, member, numbers, or-else, own-list-fault}
 use Rattle.theory.specs.Promise.{Distinct, Proper, rank, rank-in}
 use Rattle.theory.specs.Statements.{Valid-sheet-is-the-result}
 use Rattle.theory.specs.Trade.{Lists}
@@ -19,7 +19,7 @@ use Rattle.lists.proofs.Accepted.{no-fault-both}
 use Rattle.lists.proofs.Encoding.{written-list}
 use Rattle.theory.proofs.Finite.{Returns, returns-apart}
 use Rattle.theory.proofs.Results.{valid-sheet-is-the-result}
-use Rattle.papers.specs.Faults.{count-fault, dearer-fault, field-fault, fields-fault, gone-fault, head-fault, holder-fault, in-place, length-fault, own-fault, own-list-fault, owner, ring-fault, round-fault, stand-fault, tail-fault}
+use Rattle.papers.specs.Faults.{count-fault, dearer-fault, field-fault, fields-fault, gone-fault, head-fault, holder-fault, in-place, length-fault, own-fault, owner, ring-fault, round-fault, stand-fault, tail-fault}
 use Rattle.papers.specs.Paper.{count-on, dearer-than, gone-on, holder-on, own-on, ring-length, ring-on, round-on, stand-on}
 use Rattle.papers.specs.Trust.{Agreeing, Agreeing-papers-are-right, Agreeing-papers-make-a-sheet, next-on, own-list}
 

@@ -4,20 +4,10 @@ use mathlib.Core.List.{List, [], _∷_, _++_}
 use Prim.Native.Nat.{ℕ, zero, suc, _+_, _*_, _<_}
 use native.Mathlib.Omega.{arith}
 use lib.ListN.{length, getD}
-use Rattle.std.proofs.shelf.Lists.{getD-append-add}
 use Rattle.lists.specs.Format.{bytes-of, encode-stands, number-at}
-use Rattle.lists.proofs.Encoding.{length-of-stands, number-of-bytes}
+use Rattle.lists.proofs.Encoding.{byte-after, length-of-stands, number-after, number-of-bytes}
 use Rattle.sheet.specs.Sheet.{round-in, stand-in}
 use Rattle.papers.specs.Paper.{count-on, count-place, dearer-bytes, dearer-than, gone-bytes, gone-on, head-bytes, holder-on, own-on, paper-for, ring-length, ring-of, ring-on, round-on, stand-on}
-
--- a byte and a number past the first part
-byte-after : (xs ys : List ℕ) (p q : ℕ) → q ≡ length xs + p → getD (xs ++ ys) q 0 ≡ getD ys p 0
-byte-after xs ys p q is = rw is (getD-append-add xs ys p 0)
-
-number-after : (xs ys : List ℕ) (p q : ℕ) → q ≡ length xs + p → number-at (xs ++ ys) q ≡ number-at ys p
-number-after xs ys p q is =
-    let e : length xs + p + 1 ≡ length xs + (p + 1) = omega arith in
-    rw (is, e, getD-append-add xs ys p 0, getD-append-add xs ys (p + 1) 0)
 
 number-of-stands : (ts rest : List ℕ) (k : ℕ) → k < length ts → number-at (encode-stands ts ++ rest) (2 * k) ≡ getD ts k 0
 unfolding encode-stands

@@ -14,7 +14,7 @@ use Rattle.std.specs.declared.option.Option.the-variants.{None}
 use Rattle.lists.specs.declared.refusals.Refusal.{Refusal}
 use Rattle.theory.specs.Certificate.{steps}
 use Rattle.lists.specs.Format as format
-use Rattle.lists.specs.Format.{encode-stands, list-bytes, lists-of, member, number-at, numbers, or-else, start}
+use Rattle.lists.specs.Format.{encode-stands, list-bytes, lists-of, member, number-at, numbers, or-else, own-list-fault, start}
 use Rattle.lists.proofs.Accepted.{all-may, good-numbers, list-good, list-good-at, no-fault-both}
 use Rattle.lists.proofs.Encoding.{length-of-stands, proper-may, stands-written, written-good, written-list}
 use Rattle.lists.proofs.Faults.{may-list}
@@ -23,7 +23,7 @@ use Rattle.sheet.specs.Sheet as sheets
 use Rattle.sheet.specs.Sheet.{round-in, sheet-of, stand-in}
 use Rattle.sheet.proofs.Checked.{accepted-valid, all-fine, no-fault-test}
 use Rattle.sheet.proofs.Written.{written-accepted}
-use Rattle.papers.specs.Faults.{dearer-fault, field-fault, fields-fault, gone-fault, head-fault, holder-fault, in-place, length-fault, member-fault, own-fault, own-list-fault, owner, ring-fault, round-fault, stand-fault, tail-fault}
+use Rattle.papers.specs.Faults.{dearer-fault, field-fault, fields-fault, gone-fault, head-fault, holder-fault, in-place, length-fault, member-fault, own-fault, owner, ring-fault, round-fault, stand-fault, tail-fault}
 use Rattle.papers.specs.Paper.{count-on, count-place, dearer-than, gone-on, holder-on, own-on, paper-for, ring-length, ring-of, ring-on, round-on, stand-on}
 use Rattle.papers.specs.Trust.{Own-lists-stand-there, Papers-of-the-exchange-pass, Papers-pass, own-list}
 use Rattle.papers.proofs.Fields.{count-written, gone-written, holder-written, own-written, ring-length-written, ring-written, round-written, stand-written}

@@ -8,26 +8,9 @@ use native.Mathlib.Omega.{arith}
 use lib.Dec.{eqb, ltb}
 use lib.ListN.{length, getD, take, drop, length-drop}
 use Rattle.std.proofs.shelf.Tests.{cases-bool, eq-eqb, ne-eqb, cases-lt, lt-ltb, le-ltb}
-use Rattle.std.proofs.shelf.Lists.{drop-more}
 use Rattle.lists.specs.Format.{member, number-at, numbers}
+use Rattle.lists.proofs.Positions.{numbers-none, numbers-step}
 use Rattle.papers.specs.Paper.{dearer-than}
-
--- the numbers from an even place on: one, and the others
-pub numbers-step : (xs : List ℕ) (p : ℕ) → 2 * p + 1 < length xs →
-    numbers (drop (2 * p) xs) ≡ number-at xs (2 * p) ∷ numbers (drop (2 * (p + 1)) xs)
-unfolding numbers
-numbers-step xs p h =
-    let a = drop-more xs (2 * p) 0 (omega arith) in
-    let b = drop-more xs (2 * p + 1) 0 h in
-    let e : 2 * p + 1 + 1 ≡ 2 * (p + 1) = omega arith in
-    ap numbers a ∙ (ap (λ r. numbers (getD xs (2 * p) 0 ∷ r)) b ∙ rw e)
-
--- fewer than two bytes give no number
-pub numbers-none : (xs : List ℕ) → length xs < 2 → numbers xs ≡ []
-unfolding numbers
-numbers-none [] h = refl
-numbers-none (x ∷ []) h = refl
-numbers-none (x ∷ y ∷ xs) h = absurd (omega arith)
 
 pub numbers-count : (xs : List ℕ) → length (numbers xs) ≡ length xs / 2
 unfolding numbers

@@ -1,14 +1,14 @@
 -- How the first fault of a paper's ring, and of its dearer stands, is found a step at a time.
 use mathlib.Core.Path.{_≡_, refl, sym, ap, _∙_}
-use mathlib.Core.Bool.{Bool, false}
+use mathlib.Core.Bool.{Bool}
 use mathlib.Core.List.{List, _∷_}
 use Prim.Native.Nat.{ℕ, zero, suc, _+_, _<_, _≤_}
 use native.Mathlib.Numerals.{add-one}
 use native.Mathlib.Omega.{arith}
-use lib.Dec.{eqb}
-use lib.ListN.{length, getD, drop, replicate}
+use lib.ListN.{length, getD, drop}
 use Rattle.std.specs.declared.option.Option.{Option}
 use Rattle.std.specs.declared.option.Option.the-variants.{Some, None}
+use Rattle.std.specs.Options.{orOther}
 use Rattle.std.proofs.shelf.Lists.{drop-more, drop-all}
 use Rattle.lists.specs.declared.refusals.Refusal.{Refusal}
 use Rattle.lists.specs.Format.{member, or-else}
@@ -41,40 +41,35 @@ module _ (paper before : List ℕ) (left k : ℕ) (whole : Option Refusal) (so-f
       let e′ : member-fault paper k (member (ring-on paper k) before) ≡ None = rw is at e in
       rw (at, add-one k) (sym (ap (λ o. or-else o (ring-fault paper (ring-on paper k ∷ before) rest (suc k))) e′) ∙ whole-is)
 
--- a list of zeros marks nobody
-pub no-mark : (n t : ℕ) → eqb (getD (replicate n 0) t 0) 1 ≡ false
-no-mark zero t = refl
-no-mark (suc n) zero = refl
-no-mark (suc n) (suc t) = no-mark n t
-
 -- a trader of the ring without a fault has a number below 4,000
 pub member-below : (paper : List ℕ) (k : ℕ) (again : Bool) → member-fault paper k again ≡ None → ring-on paper k < 4000
 member-below paper k again e = grind arith
 
+-- a fault of one of two, before those of what follows, and none
+either-wrong : (a b rest : Option Refusal) (f : Refusal) → orOther a b ≡ Some f → or-else a (or-else b rest) ≡ Some f
+either-wrong (Some g) b rest f e = e
+either-wrong None (Some g) rest f e = e
+either-wrong None None rest f e = absurd (let z : _≡_ {A = ℕ} 0 1 = cc in omega arith)
+
+neither-wrong : (a b rest : Option Refusal) → orOther a b ≡ None → or-else a (or-else b rest) ≡ rest
+neither-wrong (Some g) b rest e = absurd (let z : _≡_ {A = ℕ} 0 1 = cc in omega arith)
+neither-wrong None (Some g) rest e = absurd (let z : _≡_ {A = ℕ} 0 1 = cc in omega arith)
+neither-wrong None None rest e = refl
+
 -- one dearer stand, at place j of the stands ts
-module _ (paper ts : List ℕ) (j t : ℕ) (whole : Option Refusal) (so-far : dearer-fault paper (drop j ts) j ≡ whole) where
-  here : j < length ts → t ≡ getD ts j 0 → dearer-fault paper (t ∷ drop (j + 1) ts) j ≡ whole
-  here h is = rw is (sym (ap (λ us. dearer-fault paper us j) (drop-more ts j 0 h)) ∙ so-far)
+module _ (paper ts : List ℕ) (j : ℕ) (whole : Option Refusal) (so-far : dearer-fault paper (drop j ts) j ≡ whole) where
+  module _ (t : ℕ) (h : j < length ts) (is : t ≡ getD ts j 0) where
+    here : or-else (holder-fault paper j t) (or-else (gone-fault paper j) (dearer-fault paper (drop (j + 1) ts) (suc j))) ≡ whole
+    unfolding dearer-fault
+    here = rw is (sym (ap (λ us. dearer-fault paper us j) (drop-more ts j 0 h)) ∙ so-far)
 
-  pub holder-wrong : (f : Refusal) → j < length ts → t ≡ getD ts j 0 → holder-fault paper j t ≡ Some f → whole ≡ Some f
-  unfolding dearer-fault
-  holder-wrong f h is e = sym (here h is) ∙ ap (λ o. or-else o (or-else (gone-fault paper j) (dearer-fault paper (drop (j + 1) ts) (suc j)))) e
+    pub dearer-wrong : (f : Refusal) → orOther (holder-fault paper j t) (gone-fault paper j) ≡ Some f → whole ≡ Some f
+    dearer-wrong f e = sym here ∙ either-wrong (holder-fault paper j t) (gone-fault paper j) (dearer-fault paper (drop (j + 1) ts) (suc j)) f e
 
-  pub gone-wrong : (f : Refusal) → j < length ts → t ≡ getD ts j 0 → holder-fault paper j t ≡ None → gone-fault paper j ≡ Some f → whole ≡ Some f
-  unfolding dearer-fault
-  gone-wrong f h is e d =
-      sym (here h is) ∙ (ap (λ o. or-else o (or-else (gone-fault paper j) (dearer-fault paper (drop (j + 1) ts) (suc j)))) e
-      ∙ ap (λ o. or-else o (dearer-fault paper (drop (j + 1) ts) (suc j))) d)
-
-  pub dearer-on : j < length ts → t ≡ getD ts j 0 → holder-fault paper j t ≡ None → gone-fault paper j ≡ None →
-      dearer-fault paper (drop (j + 1) ts) (j + 1) ≡ whole
-  unfolding dearer-fault
-  dearer-on h is e d =
-      let one = ap (λ o. or-else o (or-else (gone-fault paper j) (dearer-fault paper (drop (j + 1) ts) (suc j)))) e in
-      let two = ap (λ o. or-else o (dearer-fault paper (drop (j + 1) ts) (suc j))) d in
-      let next : dearer-fault paper (drop (j + 1) ts) (suc j) ≡ whole = sym (one ∙ two) ∙ here h is in
-      let up : j + 1 ≡ suc j = omega arith in
-      ap (λ m. dearer-fault paper (drop (j + 1) ts) m) up ∙ next
+    pub dearer-on : orOther (holder-fault paper j t) (gone-fault paper j) ≡ None → dearer-fault paper (drop (j + 1) ts) (j + 1) ≡ whole
+    dearer-on e =
+        let next = neither-wrong (holder-fault paper j t) (gone-fault paper j) (dearer-fault paper (drop (j + 1) ts) (suc j)) e in
+        ap (dearer-fault paper (drop (j + 1) ts)) (add-one j) ∙ (sym next ∙ here)
 
   pub dearer-done : length ts ≤ j → whole ≡ end-fault paper j
   unfolding dearer-fault

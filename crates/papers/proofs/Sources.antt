@@ -1,22 +1,21 @@
 -- What holds of the lists and the sheet that a paper is written from.
-use mathlib.Core.Path.{_≡_, refl, ap, _∙_}
+use mathlib.Core.Path.{_≡_, refl, _∙_}
 use mathlib.Core.List.{List, []}
-use Prim.Native.Nat.{ℕ, _+_, _*_, _<_, _≤_}
+use Prim.Native.Nat.{ℕ, _<_, _≤_}
 use native.Mathlib.Omega.{arith}
 use lib.ListN.{length, getD}
 use Rattle.std.proofs.shelf.Tests.{lt-ltb, le-ltb}
-use Rattle.std.specs.declared.option.Option.the-variants.{None}
+use Rattle.std.specs.declared.option.Option.the-variants.{Some, None}
 use Rattle.std.specs.declared.result.Result.{Result}
 use Rattle.std.specs.declared.result.Result.the-variants.{Ok, Err}
 use Rattle.lists.specs.declared.refusals.Lent.the-variants.{Results}
 use Rattle.lists.specs.declared.refusals.Refusal.{Refusal}
 use Rattle.lists.specs.declared.refusals.Refusal.the-variants.{TooShort}
-use Rattle.lists.specs.Format.{fault, list-bytes, lists-of, next-start, number-at, numbers, start, unless}
+use Rattle.lists.specs.Format.{fault, list-bytes, lists-of, number-at, numbers, start, unless}
 use Rattle.lists.proofs.Accepted.{no-fault-both}
 use Rattle.lists.proofs.Positions.{count-of-lists, list-is}
-use Rattle.sheet.specs.Sheet.{Valid, check-fault, sheet-fault, stand-in}
-use Rattle.sheet.proofs.Checked.{accepted-valid}
-use Rattle.sheet.proofs.Traders.{within, part-short, part-exists}
+use Rattle.sheet.specs.Sheet.{check-fault, sheet-fault}
+use Rattle.sheet.proofs.Traders.{part-short}
 use Rattle.papers.specs.Paper.{paper-fault, paper-for, paper-of, room-fault, trader-fault}
 
 -- the room for a paper of that length
@@ -29,47 +28,34 @@ pub enough-room : (room size : ℕ) (paper : List ℕ) → length paper ≡ size
 enough-room room size paper e h = rw (le-ltb room (length paper) (omega arith), e)
 
 -- a trader who exists
-pub trader-known : (n i : ℕ) → trader-fault n i ≡ None → i < n
+trader-known : (n i : ℕ) → trader-fault n i ≡ None → i < n
 trader-known n i e = grind arith
 
--- an accepted sheet
-module _ (bs sheet : List ℕ) (ok : check-fault bs sheet ≡ None) where
-  pub year-accepted : fault bs ≡ None
+-- an accepted sheet for n traders
+module _ (bs sheet : List ℕ) (ok : check-fault bs sheet ≡ None) (n : ℕ) (count : n ≡ number-at bs 0) (i : ℕ) where
+  year-accepted : fault bs ≡ None
   year-accepted = no-fault-both (fault bs) (sheet-fault (lists-of bs) sheet) ok .0
 
-  pub sheet-valid : Valid (lists-of bs) sheet
-  sheet-valid = accepted-valid (lists-of bs) sheet (no-fault-both (fault bs) (sheet-fault (lists-of bs) sheet) ok .1)
+  pub unknown : (f : Refusal) (room : ℕ) → trader-fault n i ≡ Some f →
+      _≡_ {A = Result ℕ Refusal} (Err f) (unless (paper-fault bs sheet i room) (length (paper-of (lists-of bs) sheet i)))
+  unknown f room e = rw (ok, ← count, e)
 
-  -- for n traders
-  module _ (n : ℕ) (count : n ≡ number-at bs 0) where
-    pub sheet-whole : length sheet ≡ 4 * n
-    sheet-whole = rw count (sheet-valid .0 ∙ ap (_*_ 4) (count-of-lists bs))
+  -- of whom i is one
+  module _ (known : trader-fault n i ≡ None) where
+    exists : i < number-at bs 0
+    exists = let h = trader-known n i known in omega arith
 
-    pub got-below : (t : ℕ) → t < n → stand-in sheet t < n
-    got-below t h =
-        let all = count-of-lists bs in
-        let below = sheet-valid .1 .exists t (omega arith) in
-        omega arith
+    module _ (list : List ℕ) (is : list ≡ list-bytes bs (start bs i)) where
+      pub list-few : length list ≤ 80
+      list-few = rw is (part-short bs year-accepted i (start bs i) exists refl)
 
-    -- of whom i is one
-    module _ (i : ℕ) (h : i < n) where
-      exists : i < number-at bs 0
-      exists = omega arith
+      pub same-paper : paper-for sheet n i (numbers list) ≡ paper-of (lists-of bs) sheet i
+      same-paper =
+          let l : getD (lists-of bs) i [] ≡ numbers list = list-is bs i exists ∙ rw is in
+          rw (l, count-of-lists bs, count)
 
-      pub list-there : next-start bs (start bs i) ≤ length bs
-      list-there = within bs year-accepted i (start bs i) exists refl
-
-      module _ (list : List ℕ) (is : list ≡ list-bytes bs (start bs i)) where
-        pub list-few : length list ≤ 80
-        list-few = rw is (part-short bs year-accepted i (start bs i) exists refl)
-
-        pub list-exists : (p : ℕ) → 2 * p + 1 < length list → number-at list (2 * p) < n
-        list-exists = part-exists bs year-accepted i (start bs i) exists refl n list count is
-
-        pub same-paper : paper-for sheet n i (numbers list) ≡ paper-of (lists-of bs) sheet i
-        same-paper =
-            let l : getD (lists-of bs) i [] ≡ numbers list = list-is bs i exists ∙ rw is in
-            rw (l, count-of-lists bs, count)
-
-      pub only-room : (room : ℕ) → paper-fault bs sheet i room ≡ room-fault room (paper-of (lists-of bs) sheet i)
-      only-room room = let e : i < number-at bs 0 = omega arith in rw (ok, lt-ltb i (number-at bs 0) e)
+      -- so only the room can be wanting
+      pub same-answer : (room : ℕ) →
+          unless (room-fault room (paper-for sheet n i (numbers list))) (length (paper-for sheet n i (numbers list)))
+          ≡ unless (paper-fault bs sheet i room) (length (paper-of (lists-of bs) sheet i))
+      same-answer room = rw (same-paper, ok, lt-ltb i (number-at bs 0) exists)

@@ -1,24 +1,17 @@
 -- When a paper hangs together, by itself and the trader's list. Its fields are numbered from 0: 0 own number, 1 round,
 -- 2 stand got, 3 length of the ring, then the traders of the ring, then the count of the dearer stands, then the holder and
 -- the round of each. The first field in fault is told; what goes on after the last field counts as one more.
-use mathlib.Core.Path.{_≡_}
 use mathlib.Core.Bool.{Bool, true, cond, _&&_, _||_, not}
 use mathlib.Core.List.{List, [], _∷_}
 use Prim.Native.Nat.{ℕ, zero, suc, _+_, _*_}
 use lib.Dec.{eqb, ltb}
-use lib.ListN.{length, getD}
+use lib.ListN.{length}
 use Rattle.std.specs.declared.option.Option.{Option}
 use Rattle.std.specs.declared.option.Option.the-variants.{Some, None}
 use Rattle.lists.specs.declared.refusals.Refusal.{Refusal}
 use Rattle.lists.specs.declared.refusals.Refusal.the-variants.{PaperFault}
-use Rattle.lists.specs.Format as format
-use Rattle.lists.specs.Format.{list-bytes, member, numbers, or-else}
+use Rattle.lists.specs.Format.{list-bytes, member, numbers, or-else, own-list-fault}
 use Rattle.papers.specs.Paper.{count-on, count-place, dearer-than, gone-on, holder-on, own-on, ring-length, ring-on, round-on, stand-on}
-
--- the four numbers before the ring's traders, as they are read
-abbrev pub Read : List ℕ → ℕ → ℕ → ℕ → ℕ → Type 0
-Read paper own round stand members =
-    (own ≡ own-on paper) × (round ≡ round-on paper) × (stand ≡ stand-on paper) × (members ≡ ring-length paper)
 
 -- field f is in fault where the paper ends before byte `end`, or where it is not right
 abbrev pub field-fault : List ℕ → ℕ → ℕ → Bool → Option Refusal
@@ -92,13 +85,6 @@ fields-fault l paper =
 -- the trader whose list it has to be: nobody where the paper ends before its number does
 abbrev pub owner : List ℕ → ℕ
 owner paper = cond (ltb (length paper) 2) 4000 (own-on paper)
-
--- the first fault of a list by itself: its count, its stands, and what follows them, as in a year of 4,000 traders, the most
--- there can be
-abbrev pub own-list-fault : List ℕ → ℕ → Option Refusal
-own-list-fault list own =
-    or-else (format.length-fault list 0)
-    (or-else (format.stands-fault list 4000 own [] (getD list 0 0) 1) (format.end-fault list (format.next-start list 0)))
 
 -- The first fault of a trader's list and then of its paper; None where the paper is accepted.
 abbrev pub paper-check-fault : List ℕ → List ℕ → Option Refusal

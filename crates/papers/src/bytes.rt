@@ -1,17 +1,10 @@
-// Reading and writing the numbers of lists, sheets and papers.
-ghost use Prim.Native.Nat.{_+_, _*_, _<_, _≤_};
+// The stands of a list that are dearer than one, and the writing of a number.
+ghost use Prim.Native.Nat.{_+_, _*_, _≤_};
 ghost use lib.ListN.{length};
 ghost use mathlib.Core.Path.{_≡_};
-ghost use Rattle.lists.specs.Format.{bytes-of, number-at, numbers};
+ghost use Rattle.lists.specs.Format.{bytes-of, numbers};
 ghost use Rattle.papers.specs.Paper.{dearer-than, written};
-
-// The two-byte number whose first byte is byte `at`, where it is known to be there.
-pub(crate) fn number_at(bytes: &[u8], at: usize) -> u16
-    requires { ⌜ at + 1 < length (now bytes) ⌝ }
-    ensures { λ r. ⌜ r ≡ number-at (now (bytes .entry)) at ⌝ }
-{
-    u16::from_le_bytes([bytes[at], bytes[at + 1]])
-}
+use lists::bytes::number_at;
 
 // How many stands of a list are dearer than a stand: those before it.
 pub(crate) fn dearer_count(stands: &[u8], stand: u16) -> usize

@@ -1,54 +1,55 @@
-// Checking a paper, by itself and the trader's list.
-ghost use Prim.Native.Nat.{_+_, _*_, _-_, _≤_, _<_};
-ghost use lib.Dec.{eqb, ltb};
-ghost use lib.ListN.{length, getD};
-ghost use mathlib.Core.Bool.{cond};
+// Checking a paper, by itself and the trader's list. A function `.._fault` tells the first fault, None where there is none. Bytes
+// that are missing count as 0, and their field is in fault.
+ghost use lib.Dec.{eqb};
+ghost use lib.ListN.{getD, length};
 ghost use mathlib.Core.List.{[]};
 ghost use mathlib.Core.Path.{_≡_};
-ghost use Rattle.std.specs.declared.option.Option.the-variants.{Some, None};
-ghost use Rattle.std.specs.Results.{Cases as ByOk};
-ghost use Rattle.lists.specs.Format.{length-fault as count-of-list-fault, list-bytes, member, number-at, numbers, stand-fault as listed-fault, stands-fault, unless};
-ghost use Rattle.papers.specs.Paper.{dearer-than, gone-on, own-on, ring-length, ring-on, round-on, stand-on};
-ghost use Rattle.papers.specs.Faults.{count-fault, dearer-fault, end-fault, fields-fault, gone-fault, head-fault, holder-fault, length-fault, member-fault, own-fault, own-list-fault, paper-check-fault, Read, ring-fault, round-fault, stand-fault, tail-fault};
+ghost use Rattle.lists.specs.Format.{member, numbers, unless};
+ghost use Rattle.papers.specs.Paper.{count-on, dearer-than, own-on, ring-length, ring-on, stand-on};
+ghost use Rattle.papers.specs.Faults.{count-fault, dearer-fault, end-fault, field-fault, fields-fault, gone-fault, head-fault, holder-fault, in-place, length-fault, member-fault, own-fault, paper-check-fault, ring-fault, round-fault, stand-fault, tail-fault};
 use crate::bytes::dearer_count;
-use crate::bytes::number_at;
+use lists::bytes::byte_at;
+use lists::bytes::number_at;
+use lists::bytes::number_in;
+use lists::reading::read_list;
 use lists::refusals::Refusal;
 
 const MOST_TRADERS: u16 = 4000;
 
-const MOST_STANDS: u8 = 40;
+// Where the own number, the round, the stand got and the length of the ring stand.
+const OWN: usize = 0;
 
-// The two-byte number whose first byte is byte `at`; None where the bytes end before it does.
-fn number_in(bytes: &[u8], at: usize) -> Option<u16>
-    ensures { λ r. ⌜ r ≡ cond (ltb (length (now (bytes .entry))) (at + 2)) None (Some (number-at (now (bytes .entry)) at)) ⌝ }
+const ROUND: usize = 2;
+
+const STAND: usize = 4;
+
+const MEMBERS: usize = 6;
+
+// The mark of a trader who was named before.
+const NAMED: u8 = 1;
+
+// A field is in fault where the paper ends before byte `end`, or where it is not right.
+fn field_fault(paper: &[u8], field: usize, end: usize, right: bool) -> Option<Refusal>
+    ensures { λ r. ⌜ r ≡ field-fault (now (paper .entry)) field end right ⌝ }
 {
-    if bytes.len() < 2 || at > bytes.len() - 2 {
-        return None;
+    if paper.len() < end || !right {
+        return Some(Refusal::PaperFault { field });
     }
-    Some(u16::from_le_bytes([bytes[at], bytes[at + 1]]))
+    None
 }
 
 // Field 0: whose paper it is.
-fn read_own(paper: &[u8]) -> Result<u16, Refusal>
-    ensures { λ r. ⌜ r ≡ unless (own-fault (now (paper .entry))) (own-on (now (paper .entry))) ⌝ }
+fn own_fault(paper: &[u8]) -> Option<Refusal>
+    ensures { λ r. ⌜ r ≡ own-fault (now (paper .entry)) ⌝ }
 {
-    let Some(own) = number_in(paper, 0) else {
-        return Err(Refusal::PaperFault { field: 0 });
-    };
-    if own >= MOST_TRADERS {
-        return Err(Refusal::PaperFault { field: 0 });
-    }
-    Ok(own)
+    field_fault(paper, 0, 2, number_at(paper, OWN) < MOST_TRADERS)
 }
 
 // Field 1: the round in which the trader went out.
-fn read_round(paper: &[u8]) -> Result<u16, Refusal>
-    ensures { λ r. ⌜ r ≡ unless (round-fault (now (paper .entry))) (round-on (now (paper .entry))) ⌝ }
+fn round_fault(paper: &[u8]) -> Option<Refusal>
+    ensures { λ r. ⌜ r ≡ round-fault (now (paper .entry)) ⌝ }
 {
-    let Some(round) = number_in(paper, 2) else {
-        return Err(Refusal::PaperFault { field: 1 });
-    };
-    Ok(round)
+    field_fault(paper, 1, 4, true)
 }
 
 // The list names the stand.
@@ -59,246 +60,163 @@ fn listed(stands: &[u8], stand: u16) -> bool
 }
 
 // Field 2: the stand got, the own one or a listed one.
-fn read_stand(stands: &[u8], paper: &[u8], own: u16) -> Result<u16, Refusal>
-    requires { ⌜ own ≡ own-on (now paper) ⌝ }
-    ensures { λ r. ⌜ r ≡ unless (stand-fault (numbers (now (stands .entry))) (now (paper .entry))) (stand-on (now (paper .entry))) ⌝ }
+fn stand_fault(stands: &[u8], paper: &[u8]) -> Option<Refusal>
+    ensures { λ r. ⌜ r ≡ stand-fault (numbers (now (stands .entry))) (now (paper .entry)) ⌝ }
 {
-    let Some(stand) = number_in(paper, 4) else {
-        return Err(Refusal::PaperFault { field: 2 });
-    };
-    if stand != own && !listed(stands, stand) {
-        return Err(Refusal::PaperFault { field: 2 });
-    }
-    Ok(stand)
+    let stand = number_at(paper, STAND);
+    let right = stand == number_at(paper, OWN) || listed(stands, stand);
+    field_fault(paper, 2, 6, right)
 }
 
 // Field 3: how many traders are on the ring, one just where the own stand is kept.
-fn read_ring_length(paper: &[u8], keeps: bool) -> Result<u16, Refusal>
-    requires { ⌜ keeps ≡ eqb (stand-on (now paper)) (own-on (now paper)) ⌝ }
-    ensures { λ r. ⌜ r ≡ unless (length-fault (now (paper .entry))) (ring-length (now (paper .entry))) ⌝ }
+fn length_fault(paper: &[u8]) -> Option<Refusal>
+    ensures { λ r. ⌜ r ≡ length-fault (now (paper .entry)) ⌝ }
 {
-    let Some(members) = number_in(paper, 6) else {
-        return Err(Refusal::PaperFault { field: 3 });
-    };
-    if members == 0 || members > MOST_TRADERS || (members == 1) != keeps {
-        return Err(Refusal::PaperFault { field: 3 });
-    }
-    Ok(members)
-}
-
-// The trader at place k of the ring. `seen` has 1 at the traders before it on the ring.
-fn read_member(paper: &[u8], k: usize, own: u16, stand: u16, seen: &[u16]) -> Result<u16, Refusal>
-    requires own { ⌜ own ≡ own-on (now paper) ⌝ ∗ ⌜ stand ≡ stand-on (now paper) ⌝ }
-    requires room { ⌜ length (now seen) ≡ 4000 ⌝ ∗ ⌜ k < 4000 ⌝ }
-    ensures { λ r. ⌜ r ≡ unless (member-fault (now (paper .entry)) k (eqb (getD (now (seen .entry)) (ring-on (now (paper .entry)) k) 0) 1)) (ring-on (now (paper .entry)) k) ⌝ }
-{
-    let Some(trader) = number_in(paper, 8 + 2 * k) else {
-        return Err(Refusal::PaperFault { field: 4 + k });
-    };
-    if trader >= MOST_TRADERS || seen[trader as usize] == 1 {
-        return Err(Refusal::PaperFault { field: 4 + k });
-    }
-    if (k == 0 && trader != own) || (k == 1 && trader != stand) {
-        return Err(Refusal::PaperFault { field: 4 + k });
-    }
-    Ok(trader)
+    let members = number_at(paper, MEMBERS);
+    let keeps = number_at(paper, STAND) == number_at(paper, OWN);
+    let right = members > 0 && members <= MOST_TRADERS && (members == 1) == keeps;
+    field_fault(paper, 3, 8, right)
 }
 
 // The four fields before the ring's traders.
-#[derive(Clone, Copy)]
-struct Head {
-    own: u16,
-    round: u16,
-    stand: u16,
-    members: u16,
+fn head_fault(stands: &[u8], paper: &[u8]) -> Option<Refusal>
+    ensures { λ r. ⌜ r ≡ head-fault (numbers (now (stands .entry))) (now (paper .entry)) ⌝ }
+{
+    own_fault(paper)
+        .or(round_fault(paper))
+        .or(stand_fault(stands, paper))
+        .or(length_fault(paper))
 }
 
-fn check_head(stands: &[u8], paper: &[u8]) -> Result<Head, Refusal>
-    ensures { λ r. ⌜ ByOk r (λ h. (head-fault (numbers (now (stands .entry))) (now (paper .entry)) ≡ None) × Read (now (paper .entry)) (h .own) (h .round) (h .stand) (h .members)) (λ f. head-fault (numbers (now (stands .entry))) (now (paper .entry)) ≡ Some f) ⌝ }
+// The ring begins with the own trader and goes on with the holder of the stand got.
+fn in_place(paper: &[u8], k: u16) -> bool
+    ensures { λ r. ⌜ r ≡ in-place (now (paper .entry)) k ⌝ }
 {
-    let own = read_own(paper)?;
-    let round = read_round(paper)?;
-    let stand = read_stand(stands, paper, own)?;
-    let members = read_ring_length(paper, stand == own)?;
-    Ok(Head {
-        own,
-        round,
-        stand,
-        members,
-    })
+    let trader = number_at(paper, 8 + 2 * k as usize);
+    match k {
+        0 => trader == number_at(paper, OWN),
+        1 => trader == number_at(paper, STAND),
+        _ => true,
+    }
+}
+
+// The trader at place k of the ring. `named` has 1 at the traders before it on the ring.
+fn member_fault(paper: &[u8], k: u16, named: &[u8]) -> Option<Refusal>
+    ensures { λ r. ⌜ r ≡ member-fault (now (paper .entry)) k (eqb (getD (now (named .entry)) (ring-on (now (paper .entry)) k) 0) 1) ⌝ }
+{
+    let at = 8 + 2 * k as usize;
+    let trader = number_at(paper, at);
+    let right = trader < MOST_TRADERS
+        && in_place(paper, k)
+        && byte_at(named, trader as usize) != NAMED;
+    field_fault(paper, 4 + k as usize, at + 2, right)
 }
 
 // The traders of the ring: the own one first, then the holder of the stand got, and nobody twice.
-fn check_ring(paper: &[u8], own: u16, stand: u16, members: u16) -> Result<u16, Refusal>
-    requires head { ⌜ own ≡ own-on (now paper) ⌝ ∗ ⌜ stand ≡ stand-on (now paper) ⌝ }
-    requires few { ⌜ members ≤ 4000 ⌝ }
-    ensures { λ r. ⌜ r ≡ unless (ring-fault (now (paper .entry)) [] members 0) members ⌝ }
+fn ring_fault(paper: &[u8]) -> Option<Refusal>
+    ensures { λ r. ⌜ r ≡ ring-fault (now (paper .entry)) [] (ring-length (now (paper .entry))) 0 ⌝ }
 {
-    let mut seen = [0u16; 4000];
+    let members = number_at(paper, MEMBERS);
+    let mut named = [0u8; 4000];
     for k in 0..members {
-        let trader = read_member(paper, k as usize, own, stand, &seen)?;
-        seen[trader as usize] = 1;
+        if let Some(fault) = member_fault(paper, k, &named) {
+            return Some(fault);
+        }
+        let trader = number_at(paper, 8 + 2 * k as usize);
+        named[trader as usize] = NAMED;
     }
-    Ok(members)
+    None
 }
 
 // The count of the dearer stands.
-fn read_count(paper: &[u8], members: u16, dearer: usize) -> Result<usize, Refusal>
-    requires { ⌜ members ≡ ring-length (now paper) ⌝ }
-    ensures { λ r. ⌜ r ≡ unless (count-fault (now (paper .entry)) dearer) dearer ⌝ }
+fn count_fault(paper: &[u8], dearer: usize) -> Option<Refusal>
+    ensures { λ r. ⌜ r ≡ count-fault (now (paper .entry)) dearer ⌝ }
 {
-    let at = 8 + 2 * members as usize;
-    if at >= paper.len() || paper[at] as usize != dearer {
-        return Err(Refusal::PaperFault {
-            field: 4 + members as usize,
-        });
-    }
-    Ok(dearer)
+    let members = number_at(paper, MEMBERS) as usize;
+    let count = byte_at(paper, 8 + 2 * members) as usize;
+    field_fault(paper, 4 + members, 9 + 2 * members, count == dearer)
 }
 
 // The holder of the dearer stand at place j of the list, who is the one with the stand's number.
-fn read_holder(paper: &[u8], members: u16, j: usize, stand: u16) -> Result<u16, Refusal>
-    requires { ⌜ members ≡ ring-length (now paper) ⌝ ∗ ⌜ j < 4000 ⌝ }
-    ensures { λ r. ⌜ r ≡ unless (holder-fault (now (paper .entry)) j stand) stand ⌝ }
+fn holder_fault(paper: &[u8], j: u8, stand: u16) -> Option<Refusal>
+    ensures { λ r. ⌜ r ≡ holder-fault (now (paper .entry)) j stand ⌝ }
 {
-    let field = 5 + members as usize + 2 * j;
-    let Some(holder) = number_in(paper, 9 + 2 * members as usize + 4 * j) else {
-        return Err(Refusal::PaperFault { field });
-    };
-    if holder != stand {
-        return Err(Refusal::PaperFault { field });
-    }
-    Ok(holder)
+    let members = number_at(paper, MEMBERS) as usize;
+    let at = 9 + 2 * members + 4 * j as usize;
+    let field = 5 + members + 2 * j as usize;
+    field_fault(paper, field, at + 2, number_at(paper, at) == stand)
 }
 
 // The round in which that holder went out: an earlier one than the own.
-fn read_gone(paper: &[u8], members: u16, j: usize, round: u16) -> Result<u16, Refusal>
-    requires { ⌜ members ≡ ring-length (now paper) ⌝ ∗ ⌜ round ≡ round-on (now paper) ⌝ ∗ ⌜ j < 4000 ⌝ }
-    ensures { λ r. ⌜ r ≡ unless (gone-fault (now (paper .entry)) j) (gone-on (now (paper .entry)) j) ⌝ }
+fn gone_fault(paper: &[u8], j: u8) -> Option<Refusal>
+    ensures { λ r. ⌜ r ≡ gone-fault (now (paper .entry)) j ⌝ }
 {
-    let field = 6 + members as usize + 2 * j;
-    let Some(gone) = number_in(paper, 11 + 2 * members as usize + 4 * j) else {
-        return Err(Refusal::PaperFault { field });
-    };
-    if gone >= round {
-        return Err(Refusal::PaperFault { field });
-    }
-    Ok(gone)
+    let members = number_at(paper, MEMBERS) as usize;
+    let at = 11 + 2 * members + 4 * j as usize;
+    let field = 6 + members + 2 * j as usize;
+    let earlier = number_at(paper, at) < number_at(paper, ROUND);
+    field_fault(paper, field, at + 2, earlier)
 }
 
-// Nothing follows the dearer stands.
-fn check_end(paper: &[u8], members: u16, dearer: usize) -> Result<usize, Refusal>
-    requires { ⌜ members ≡ ring-length (now paper) ⌝ ∗ ⌜ dearer < 4000 ⌝ }
-    ensures { λ r. ⌜ r ≡ unless (end-fault (now (paper .entry)) dearer) dearer ⌝ }
+// Nothing follows the j dearer stands.
+fn end_fault(paper: &[u8], j: u8) -> Option<Refusal>
+    ensures { λ r. ⌜ r ≡ end-fault (now (paper .entry)) j ⌝ }
 {
-    if 9 + 2 * members as usize + 4 * dearer < paper.len() {
-        return Err(Refusal::PaperFault {
-            field: 5 + members as usize + 2 * dearer,
+    let members = number_at(paper, MEMBERS) as usize;
+    if 9 + 2 * members + 4 * (j as usize) < paper.len() {
+        return Some(Refusal::PaperFault {
+            field: 5 + members + 2 * j as usize,
         });
     }
-    Ok(dearer)
+    None
 }
 
-// The dearer stands, each with its holder and the holder's round, and then nothing.
-fn check_dearer(stands: &[u8], paper: &[u8], head: Head, dearer: usize) -> Result<usize, Refusal>
-    requires head { ⌜ Read (now paper) (head .own) (head .round) (head .stand) (head .members) ⌝ }
-    requires dearer { ⌜ dearer ≡ length (dearer-than (head .stand) (numbers (now stands))) ⌝ ∗ ⌜ dearer < 4000 ⌝ }
-    ensures { λ r. ⌜ r ≡ unless (dearer-fault (now (paper .entry)) (dearer-than (head .stand) (numbers (now (stands .entry)))) 0) dearer ⌝ }
+// The dearer stands, each with its holder and the holder's round, and then nothing. Their count was found right.
+fn dearer_fault(stands: &[u8], paper: &[u8]) -> Option<Refusal>
+    requires { ⌜ count-on (now paper) ≡ length (dearer-than (stand-on (now paper)) (numbers (now stands))) ⌝ }
+    ensures { λ r. ⌜ r ≡ dearer-fault (now (paper .entry)) (dearer-than (stand-on (now (paper .entry))) (numbers (now (stands .entry)))) 0 ⌝ }
 {
-    for j in 0..dearer {
-        let stand = number_at(stands, 2 * j);
-        read_holder(paper, head.members, j, stand)?;
-        read_gone(paper, head.members, j, head.round)?;
+    let count = byte_at(paper, 8 + 2 * number_at(paper, MEMBERS) as usize);
+    for j in 0..count {
+        let stand = number_at(stands, 2 * j as usize);
+        if let Some(fault) = holder_fault(paper, j, stand).or(gone_fault(paper, j)) {
+            return Some(fault);
+        }
     }
-    check_end(paper, head.members, dearer)
+    end_fault(paper, count)
 }
 
 // The count of the dearer stands, and then each.
-fn check_tail(stands: &[u8], paper: &[u8], head: Head) -> Result<usize, Refusal>
-    requires head { ⌜ Read (now paper) (head .own) (head .round) (head .stand) (head .members) ⌝ }
-    requires few { ⌜ length (now stands) < 4000 ⌝ }
-    ensures { λ r. ⌜ r ≡ unless (tail-fault (now (paper .entry)) (dearer-than (head .stand) (numbers (now (stands .entry))))) (length (dearer-than (head .stand) (numbers (now (stands .entry))))) ⌝ }
+fn tail_fault(stands: &[u8], paper: &[u8]) -> Option<Refusal>
+    ensures { λ r. ⌜ r ≡ tail-fault (now (paper .entry)) (dearer-than (stand-on (now (paper .entry))) (numbers (now (stands .entry)))) ⌝ }
 {
-    let dearer = dearer_count(stands, head.stand);
-    read_count(paper, head.members, dearer)?;
-    check_dearer(stands, paper, head, dearer)
+    let dearer = dearer_count(stands, number_at(paper, STAND));
+    if let Some(fault) = count_fault(paper, dearer) {
+        return Some(fault);
+    }
+    dearer_fault(stands, paper)
 }
 
 // All fields of a paper, for the trader whose list has these bytes of stands.
-fn check_fields(stands: &[u8], paper: &[u8]) -> Result<u16, Refusal>
-    requires { ⌜ length (now stands) < 4000 ⌝ }
-    ensures { λ r. ⌜ r ≡ unless (fields-fault (numbers (now (stands .entry))) (now (paper .entry))) (own-on (now (paper .entry))) ⌝ }
+fn fields_fault(stands: &[u8], paper: &[u8]) -> Option<Refusal>
+    ensures { λ r. ⌜ r ≡ fields-fault (numbers (now (stands .entry))) (now (paper .entry)) ⌝ }
 {
-    let head = check_head(stands, paper)?;
-    check_ring(paper, head.own, head.stand, head.members)?;
-    check_tail(stands, paper, head)?;
-    Ok(head.own)
-}
-
-// The count of a list by itself.
-fn read_length(list: &[u8]) -> Result<u8, Refusal>
-    ensures { λ r. ⌜ r ≡ unless (count-of-list-fault (now (list .entry)) 0) (getD (now (list .entry)) 0 0) ⌝ }
-{
-    if list.len() == 0 {
-        return Err(Refusal::WrongLength { at: 0 });
-    }
-    if list[0] > MOST_STANDS {
-        return Err(Refusal::LongList { at: 0 });
-    }
-    Ok(list[0])
-}
-
-// The stand at byte `at` of trader own's list. `seen` has 1 at the stands that the list has named before.
-fn read_listed(list: &[u8], own: u16, at: usize, seen: &[u16]) -> Result<u16, Refusal>
-    requires { ⌜ length (now seen) ≡ 4000 ⌝ }
-    ensures { λ r. ⌜ r ≡ unless (listed-fault (now (list .entry)) 4000 own at (eqb (getD (now (seen .entry)) (number-at (now (list .entry)) at) 0) 1)) (number-at (now (list .entry)) at) ⌝ }
-{
-    let Some(stand) = number_in(list, at) else {
-        return Err(Refusal::WrongLength { at: list.len() });
-    };
-    if stand >= MOST_TRADERS || stand == own || seen[stand as usize] == 1 {
-        return Err(Refusal::WrongStand { at });
-    }
-    Ok(stand)
-}
-
-// The stands of a list by itself; hands on where they end.
-fn check_stands(list: &[u8], own: u16, count: u8) -> Result<usize, Refusal>
-    ensures { λ r. ⌜ r ≡ unless (stands-fault (now (list .entry)) 4000 own [] count 1) (1 + 2 * count) ⌝ }
-{
-    let mut seen = [0u16; 4000];
-    let mut at = 1;
-    for k in 0..count {
-        let stand = read_listed(list, own, at, &seen)?;
-        seen[stand as usize] = 1;
-        at += 2;
-    }
-    Ok(at)
-}
-
-// A list by itself: the count and just as many stands, of which none is the own one. Hands on the bytes of the stands.
-fn check_list(list: &[u8], own: u16) -> Result<&[u8], Refusal>
-    ensures { λ r. ⌜ ByOk r (λ s. (now s ≡ list-bytes (now (list .entry)) 0) × (length (now s) < 4000) × (own-list-fault (now (list .entry)) own ≡ None)) (λ f. own-list-fault (now (list .entry)) own ≡ Some f) ⌝ }
-{
-    let count = read_length(list)?;
-    let end = check_stands(list, own, count)?;
-    if end < list.len() {
-        return Err(Refusal::WrongLength { at: end });
-    }
-    Ok(&list[1..])
+    head_fault(stands, paper)
+        .or(ring_fault(paper))
+        .or(tail_fault(stands, paper))
 }
 
 // Checks a paper by itself and the trader's list, which is its count's byte and its stands: hands on whose paper it is, or the
-// first fault of the list and then of the paper.
+// first fault of the list and then of the paper. Where the paper ends before its trader's number, the list may be anybody's.
 pub fn check_paper(list: &[u8], paper: &[u8]) -> Result<u16, Refusal>
     ensures { λ r. ⌜ r ≡ unless (paper-check-fault (now (list .entry)) (now (paper .entry))) (own-on (now (paper .entry))) ⌝ }
 {
-    let own = match number_in(paper, 0) {
-        Some(own) => own,
-        None => MOST_TRADERS,
-    };
-    let stands = check_list(list, own)?;
-    check_fields(stands, paper)
+    let own = number_in(paper, OWN).unwrap_or(MOST_TRADERS);
+    let stands = read_list(list, own)?;
+    match fields_fault(stands, paper) {
+        Some(fault) => Err(fault),
+        None => Ok(number_at(paper, OWN)),
+    }
 }
 
 #[cfg(test)]

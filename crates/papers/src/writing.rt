@@ -1,40 +1,25 @@
 // Writing a trader's paper from the lists of a year and a sheet.
-ghost use Prim.Native.Nat.{ℕ, _+_, _*_, _≤_, _<_};
+ghost use Prim.Native.Nat.{_+_, _*_, _≤_, _<_};
 ghost use lib.ListN.{length};
 ghost use mathlib.Core.List.{_++_};
 ghost use mathlib.Core.Path.{_≡_};
-ghost use Rattle.lists.specs.Format.{bytes-of, encode-stands, list-bytes, lists-of, next-start, number-at, numbers, start, unless};
-ghost use Rattle.sheet.specs.Sheet.{check-fault, round-in, stand-in};
+ghost use Rattle.lists.specs.Format.{bytes-of, encode-stands, lists-of, number-at, numbers, unless};
+ghost use Rattle.sheet.specs.Sheet.{check-fault};
 ghost use Rattle.std.specs.declared.option.Option.the-variants.{None};
 ghost use Rattle.papers.specs.Paper.{dearer-than, gone-bytes, left-by, paper-fault, paper-for, paper-of, ring-of, room-fault, trader-fault, written};
 use crate::bytes::dearer_count;
-use crate::bytes::number_at;
 use crate::bytes::put;
+use lists::bytes::number_at;
+use lists::reading::list_at;
 use lists::reading::start_of;
 use lists::refusals::Lent;
 use lists::refusals::Refusal;
 use sheet::checking::check;
-
-// The stand that a trader got.
-fn stand_in(sheet: &[u8], trader: u16) -> u16
-    requires { ⌜ 4 * trader + 3 < length (now sheet) ⌝ }
-    ensures { λ r. ⌜ r ≡ stand-in (now (sheet .entry)) trader ⌝ }
-{
-    number_at(sheet, 4 * trader as usize)
-}
-
-// The round in which a trader went out.
-fn round_in(sheet: &[u8], trader: u16) -> u16
-    requires { ⌜ 4 * trader + 3 < length (now sheet) ⌝ }
-    ensures { λ r. ⌜ r ≡ round-in (now (sheet .entry)) trader ⌝ }
-{
-    number_at(sheet, 4 * trader as usize + 2)
-}
+use sheet::entries::round_in;
+use sheet::entries::stand_in;
 
 // How many traders are on a trader's ring.
 fn ring_length(sheet: &[u8], n: u16, trader: u16) -> u16
-    requires whole { ⌜ length (now sheet) ≡ 4 * n ⌝ ∗ ⌜ trader < n ⌝ }
-    requires exist { ⌜ ((t : ℕ) → t < n → stand-in (now sheet) t < n) ⌝ }
     ensures { λ r. ⌜ r ≡ length (ring-of (now (sheet .entry)) n trader) ⌝ }
 {
     let mut at = trader;
@@ -60,9 +45,7 @@ fn write_head(out: &mut [u8], own: u16, round: u16, stand: u16, members: u16)
 
 // Writes the traders of a trader's ring.
 fn write_ring(out: &mut [u8], sheet: &[u8], n: u16, trader: u16, members: u16)
-    requires whole { ⌜ length (now sheet) ≡ 4 * n ⌝ ∗ ⌜ trader < n ⌝ }
-    requires exist { ⌜ ((t : ℕ) → t < n → stand-in (now sheet) t < n) ⌝ }
-    requires room { ⌜ members ≡ length (ring-of (now sheet) n trader) ⌝ ∗ ⌜ 8 + 2 * members ≤ length (now out) ⌝ }
+    requires { ⌜ members ≡ length (ring-of (now sheet) n trader) ⌝ ∗ ⌜ 8 + 2 * members ≤ length (now out) ⌝ }
     ensures { λ _. ⌜ now (out .exit) ≡ written 8 (encode-stands (ring-of (now (sheet .entry)) n trader)) (now (out .entry)) ⌝ }
 {
     let mut at = trader;
@@ -76,7 +59,6 @@ fn write_ring(out: &mut [u8], sheet: &[u8], n: u16, trader: u16, members: u16)
 fn write_gone(out: &mut [u8], at: usize, sheet: &[u8], stands: &[u8], stand: u16, dearer: usize)
     requires room { ⌜ at + 4 * dearer ≤ length (now out) ⌝ }
     requires dearer { ⌜ dearer ≡ length (dearer-than stand (numbers (now stands))) ⌝ }
-    requires exist { ⌜ ((p : ℕ) → 2 * p + 1 < length (now stands) → 4 * number-at (now stands) (2 * p) + 3 < length (now sheet)) ⌝ }
     ensures { λ _. ⌜ now (out .exit) ≡ written at (gone-bytes (now (sheet .entry)) (dearer-than stand (numbers (now (stands .entry))))) (now (out .entry)) ⌝ }
 {
     for j in 0..dearer {
@@ -94,9 +76,7 @@ fn write_for(
     stands: &[u8],
     out: &mut [u8],
 ) -> Result<usize, Refusal>
-    requires whole { ⌜ length (now sheet) ≡ 4 * n ⌝ ∗ ⌜ trader < n ⌝ ∗ ⌜ length (now stands) ≤ 80 ⌝ }
-    requires got { ⌜ ((t : ℕ) → t < n → stand-in (now sheet) t < n) ⌝ }
-    requires listed { ⌜ ((p : ℕ) → 2 * p + 1 < length (now stands) → number-at (now stands) (2 * p) < n) ⌝ }
+    requires { ⌜ length (now stands) ≤ 80 ⌝ }
     ensures answer { λ r. ⌜ r ≡ unless (room-fault (length (now (out .entry))) (paper-for (now (sheet .entry)) n trader (numbers (now (stands .entry))))) (length (paper-for (now (sheet .entry)) n trader (numbers (now (stands .entry))))) ⌝ }
     ensures out { λ r. ⌜ now (out .exit) ≡ left-by r (paper-for (now (sheet .entry)) n trader (numbers (now (stands .entry)))) (now (out .entry)) ⌝ }
 {
@@ -118,23 +98,13 @@ fn write_for(
 }
 
 // A trader who does not exist has no paper.
-fn known_trader(n: u16, trader: u16) -> Result<u16, Refusal>
-    ensures { λ r. ⌜ r ≡ unless (trader-fault n trader) trader ⌝ }
+fn trader_fault(n: u16, trader: u16) -> Option<Refusal>
+    ensures { λ r. ⌜ r ≡ trader-fault n trader ⌝ }
 {
     if trader >= n {
-        return Err(Refusal::PaperFault { field: 0 });
+        return Some(Refusal::PaperFault { field: 0 });
     }
-    Ok(trader)
-}
-
-// The bytes of the stands of a trader's list.
-fn stands_of(bytes: &[u8], trader: u16) -> &[u8]
-    requires { ⌜ next-start (now bytes) (start (now bytes) trader) ≤ length (now bytes) ⌝ }
-    ensures { λ r. ⌜ now r ≡ list-bytes (now (bytes .entry)) (start (now (bytes .entry)) trader) ⌝ }
-{
-    let at = start_of(bytes, trader);
-    let size = 2 * bytes[at] as usize;
-    &bytes[at + 1..at + 1 + size]
+    None
 }
 
 // Writes the paper of a trader by the lists of a year and a sheet for them: its length. What the checker of sheets refuses is
@@ -160,15 +130,17 @@ fn write_checked(
     ensures answer { λ r. ⌜ r ≡ unless (paper-fault (now (bytes .entry)) (now (sheet .entry)) trader (length (now (out .entry)))) (length (paper-of (lists-of (now (bytes .entry))) (now (sheet .entry)) trader)) ⌝ }
     ensures out { λ r. ⌜ now (out .exit) ≡ left-by r (paper-of (lists-of (now (bytes .entry))) (now (sheet .entry)) trader) (now (out .entry)) ⌝ }
 {
-    known_trader(n, trader)?;
-    write_for(sheet, n, trader, stands_of(bytes, trader), out)
+    if let Some(fault) = trader_fault(n, trader) {
+        return Err(fault);
+    }
+    let stands = list_at(bytes, start_of(bytes, trader));
+    write_for(sheet, n, trader, stands, out)
 }
 
 #[cfg(test)]
 mod tests {
     use super::*;
     use crate::checking::check_paper;
-    use lists::reading::list_at;
     use sheet::exchanging::exchange;
     use std::test::*;
 
@@ -209,10 +181,8 @@ mod tests {
     fn passes(bytes: &[u8], sheet: &[u8], trader: u16) -> bool {
         let mut out = [0; 64];
         let at = start_of(bytes, trader);
-        let Some(stands) = list_at(bytes, at) else {
-            return false;
-        };
-        let end = at.saturating_add(1).saturating_add(stands.len());
+        let end = at.saturating_add(1)
+            .saturating_add(list_at(bytes, at).len());
         let Ok(size) = paper(bytes, sheet, trader, &mut out) else {
             return false;
         };

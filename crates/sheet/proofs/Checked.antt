@@ -185,7 +185,7 @@ accepts-exactly ls sheet proper = (accepted-valid ls sheet, valid-accepted ls sh
 
 -- ---- the outcome of a check
 
-some-not-none : (f : Refusal) → _≡_ {A = Option Refusal} (Some f) None → ⊥
+pub some-not-none : (f : Refusal) → _≡_ {A = Option Refusal} (Some f) None → ⊥
 some-not-none f e = let z : _≡_ {A = ℕ} 0 1 = cc in omega arith
 
 pub checked : (bs sheet : List ℕ) (r : Result ℕ Refusal) → r ≡ unless (check-fault bs sheet) (number-at bs 0) → Checked bs sheet r

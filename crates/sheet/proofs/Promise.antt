@@ -1,29 +1,34 @@
 -- The promise of the public exchange, from the theory of the exchange and from what was written.
 use mathlib.Core.Path.{_≡_, refl, sym, ap, _∙_}
-use mathlib.Core.Bool.{Bool, true}
-use mathlib.Core.List.{List, [], _∷_, _++_, map, append-assoc}
+use mathlib.Core.List.{List, [], _++_, append-assoc}
 use Prim.Native.Nat.{ℕ, zero, suc, _+_, _*_, _-_, _≤_, _<_}
 use native.Mathlib.Omega.{arith}
 use lib.ListN.{length, getD, set, drop, replicate, length-append}
 use Rattle.std.specs.Iters.{counting}
 use Rattle.std.specs.Joined.{joined}
 use Rattle.std.specs.declared.option.Option.the-variants.{None}
-use Rattle.std.proofs.shelf.Tests.{lt-ltb, ltb-true}
+use Rattle.std.specs.declared.result.Result.{Result}
+use Rattle.std.specs.declared.result.Result.the-variants.{Err}
+use Rattle.lists.specs.declared.refusals.Refusal.{Refusal}
+use Rattle.rounds.specs.declared.running.Exchanged.{Exchanged}
+use Rattle.std.proofs.shelf.Tests.{le-ltb, lt-ltb, ltb-true}
 use Rattle.std.proofs.shelf.Lists.{getD-append-left, set-getD, length-replicate, drop-at}
 use Rattle.std.proofs.shelf.Counted.{length-map-counting}
-use Rattle.lists.specs.Format.{bytes-of, fault, lists-of, number-at}
-use Rattle.theory.specs.Promise.{Proper, rank}
+use Rattle.lists.specs.Format.{bytes-of, fault, lists-of, number-at, unless}
+use Rattle.theory.specs.Promise.{rank}
 use Rattle.theory.specs.Trade.{Lists, out, result}
 use Rattle.lists.proofs.Accepted.{accepted-proper}
 use Rattle.lists.proofs.Encoding.{writes-what-was-read}
+use Rattle.lists.proofs.Faults.{refused-fault}
 use Rattle.theory.proofs.Certificates.{turns}
 use Rattle.theory.proofs.Exchange.{certificate}
 use Rattle.theory.proofs.Finite.{preimage}
-use Rattle.theory.proofs.Promises.{rank-set-same, result-apart, result-below, result-own, result-truthful, result-unbettered}
+use Rattle.theory.proofs.Promises.{result-apart, result-below, result-own, result-truthful, result-unbettered}
 use Rattle.rounds.proofs.Law.{out-at, result-at}
-use Rattle.rounds.specs.Run.{outs-of, results-of}
-use Rattle.sheet.specs.Exchange.{Promised, entries}
-use Rattle.sheet.specs.Sheet.{entry, round-in, sheet-of, stand-in}
+use Rattle.rounds.specs.Run.{outs-of, results-of, run-fault}
+use Rattle.sheet.specs.Exchange.{Promised, entries, exchange-fault}
+use Rattle.sheet.specs.Sheet.{entry, sheet-of}
+use Rattle.sheet.proofs.Checked.{some-not-none}
 use Rattle.sheet.proofs.Written.{length-sheet, round-written, stand-written}
 
 -- a number within the front of what was written
@@ -84,6 +89,19 @@ promised bs xs ys bytes accepted =
           result-unbettered ls group share within apart (λ j l m. rw (at j l) at (well j l m)) i h g ∙ sym (at i h);
       no-gain = λ i other h _. rw (at i h) (no-gain ls i other h);
     }
+
+-- accepted lists, with room for all that is written
+pub nothing-wrong : (bs : List ℕ) (n results sheet work : ℕ) → fault bs ≡ None → n ≡ number-at bs 0 → n ≤ results → 4 * n ≤ sheet → 3 * n ≤ work →
+    exchange-fault bs results sheet work ≡ None
+nothing-wrong bs n results sheet work accepted is a b c =
+    rw (accepted, ← is, le-ltb results n a, le-ltb sheet (4 * n) b, le-ltb work (3 * n) c)
+
+pub never-refused : (bs : List ℕ) (n results work : ℕ) (a : Exchanged) (f : Refusal) → fault bs ≡ None → n ≡ number-at bs 0 → n ≤ results → 3 * n ≤ work →
+    _≡_ {A = Result Exchanged Refusal} (Err f) (unless (run-fault bs results work) a) → ⊥
+never-refused bs n results work a f accepted is r w e =
+    let none : run-fault bs results work ≡ None = rw (accepted, ← is, le-ltb results n r, le-ltb work (3 * n) w) in
+    let bad = refused-fault (run-fault bs results work) a f e in
+    some-not-none f (sym bad ∙ none)
 
 -- What stands in the lent slices at the end.
 module _ (ls : Lists) (n : ℕ) (results₀ sheet₀ work₀ results work : List ℕ) (traders : n ≡ length ls)

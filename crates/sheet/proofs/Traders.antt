@@ -1,24 +1,21 @@
 -- How the first fault of all traders is found a trader at a time.
 use mathlib.Core.Path.{_≡_, sym, ap, _∙_}
-use mathlib.Core.Bool.{Bool, true, false}
+use mathlib.Core.Bool.{Bool}
 use mathlib.Core.List.{List, []}
-use mathlib.Core.Logic.{inl, inr}
 use Prim.Native.Nat.{ℕ, zero, suc, _+_, _*_, _≤_, _<_}
 use native.Mathlib.Omega.{arith}
 use native.Mathlib.Numerals.{add-one}
 use lib.Dec.{eqb}
 use lib.ListN.{length, getD, set, replicate}
-use Rattle.std.proofs.shelf.Lists.{getD-default, getD-set-same, getD-set-other}
-use Rattle.std.proofs.shelf.Tests.{cases-eq, and-parts, ltb-true, ne-eqb, eq-eqb}
+use Rattle.std.proofs.shelf.Tests.{and-parts, ltb-true, ne-eqb}
 use Rattle.std.specs.declared.option.Option.{Option}
 use Rattle.std.specs.declared.option.Option.the-variants.{Some, None}
 use Rattle.lists.specs.declared.refusals.Refusal.{Refusal}
 use Rattle.lists.specs.Format.{fault, list-bytes, lists-of, next-start, number-at, numbers, or-else, start}
-use Rattle.theory.specs.Promise.{Distinct}
 use Rattle.theory.specs.Trade.{Lists}
-use Rattle.lists.proofs.Accepted.{list-distinct, list-within, no-fault-both, short-list}
-use Rattle.lists.proofs.Faults.{no-marks}
-use Rattle.lists.proofs.Positions.{count-of-lists, length-of-part, list-is, numbers-at, numbers-length}
+use Rattle.lists.proofs.Accepted.{list-within, no-fault-both, short-list}
+use Rattle.lists.proofs.Faults.{marks-set, no-mark}
+use Rattle.lists.proofs.Positions.{count-of-lists, length-of-part, list-is}
 use Rattle.sheet.specs.Sheet.{stand-in, got-before, taken-fault, dearer-fault, holder-fault, entry-fault, trader-fault, traders-fault}
 use Rattle.sheet.proofs.Checked.{no-fault-test}
 
@@ -52,23 +49,13 @@ entry-below sheet n i ts again e =
 -- the marks of the stands got before: none, and one more
 pub marks-none : (sheet : List ℕ) (n t : ℕ) → eqb (getD (replicate n 0) t 0) 1 ≡ got-before sheet 0 t
 unfolding got-before
-marks-none sheet n t = ne-eqb _ _ (λ e. let none = no-marks n t in omega arith)
+marks-none sheet n t = no-mark n t
 
 pub marks-more : (sheet taken : List ℕ) (i got : ℕ) → got ≡ stand-in sheet i → got < length taken →
     ((t : ℕ) → eqb (getD taken t 0) 1 ≡ got-before sheet i t) →
     (t : ℕ) → eqb (getD (set taken got 1) t 0) 1 ≡ got-before sheet (i + 1) t
 unfolding got-before
-marks-more sheet taken i got is h m t =
-    rw (add-one i) (elim (cases-eq t got) [
-      | inl e ↦
-          (let same = getD-set-same taken got 1 0 h in
-          let here : eqb (stand-in sheet i) t ≡ true = eq-eqb _ _ (sym (e ∙ is)) in
-          rw (here, e, same))
-      | inr ne ↦
-          (let other = getD-set-other taken got t 1 0 ne in
-          let there : eqb (stand-in sheet i) t ≡ false = ne-eqb _ _ (λ e. ne (sym (is ∙ e))) in
-          rw (other, there) (m t))
-    ])
+marks-more sheet taken i got is h m t = rw (add-one i, ← is) (marks-set taken 1 got h (got-before sheet i) m t)
 
 -- the list of trader i in accepted bytes
 module _ (bs : List ℕ) (accepted : fault bs ≡ None) (i at : ℕ) (h : i < number-at bs 0) (begins : at ≡ start bs i) where

@@ -12,7 +12,7 @@ use Rattle.lists.specs.Format.{number-at}
 use Rattle.theory.specs.Promise.{Proper}
 use Rattle.theory.specs.Statements.{Own-sheet-valid}
 use Rattle.theory.specs.Trade.{Lists, all-in, out, result}
-use Rattle.lists.proofs.Encoding.{number-of-bytes, reads-what-was-written}
+use Rattle.lists.proofs.Encoding.{number-after, number-of-bytes, reads-what-was-written}
 use Rattle.theory.proofs.Exchange.{all-in-sized, all-in-in}
 use Rattle.theory.proofs.Rounds.{out-bound}
 use Rattle.theory.proofs.Promises.{result-below}
@@ -28,16 +28,6 @@ pub length-entries : (ls : Lists) (a k : ℕ) → length (entries ls a k) ≡ 4 
 length-entries ls a zero = refl
 length-entries ls a (suc k) = let ih = length-entries ls (a + 1) k in omega arith
 
--- past the first entry are the entries of the traders after it
-byte-after : (ls : Lists) (a k q p : ℕ) → p ≡ q + 4 → getD (entries ls a (suc k)) p 0 ≡ getD (entries ls (a + 1) k) q 0
-byte-after ls a k q p e = let p′ : p ≡ suc (suc (suc (suc q))) = omega arith in rw p′
-
-number-after : (ls : Lists) (a k q p : ℕ) → p ≡ q + 4 → number-at (entries ls a (suc k)) p ≡ number-at (entries ls (a + 1) k) q
-number-after ls a k q p e =
-    let low = byte-after ls a k q p e in
-    let high = byte-after ls a k (q + 1) (p + 1) (omega arith) in
-    rw (low, high)
-
 pub stand-entry : (ls : Lists) (a k i j p : ℕ) → i < k → j ≡ a + i → p ≡ 4 * i → number-at (entries ls a k) p ≡ result ls j
 stand-entry ls a zero i j p h is at = absurd (omega arith)
 stand-entry ls a (suc k) zero j p h is at =
@@ -45,7 +35,7 @@ stand-entry ls a (suc k) zero j p h is at =
     let j′ : j ≡ a = omega arith in
     rw (p′, j′) (number-of-bytes (result ls a))
 stand-entry ls a (suc k) (suc i) j p h is at =
-    number-after ls a k (4 * i) p (omega arith) ∙ stand-entry ls (a + 1) k i j (4 * i) (omega arith) (omega arith) refl
+    number-after (entry ls a) (entries ls (a + 1) k) (4 * i) p (omega arith) ∙ stand-entry ls (a + 1) k i j (4 * i) (omega arith) (omega arith) refl
 
 pub round-entry : (ls : Lists) (a k i j p : ℕ) → i < k → j ≡ a + i → p ≡ 4 * i + 2 → number-at (entries ls a k) p ≡ out ls j
 round-entry ls a zero i j p h is at = absurd (omega arith)
@@ -54,7 +44,7 @@ round-entry ls a (suc k) zero j p h is at =
     let j′ : j ≡ a = omega arith in
     rw (p′, j′) (number-of-bytes (out ls a))
 round-entry ls a (suc k) (suc i) j p h is at =
-    number-after ls a k (4 * i + 2) p (omega arith) ∙ round-entry ls (a + 1) k i j (4 * i + 2) (omega arith) (omega arith) refl
+    number-after (entry ls a) (entries ls (a + 1) k) (4 * i + 2) p (omega arith) ∙ round-entry ls (a + 1) k i j (4 * i + 2) (omega arith) (omega arith) refl
 
 -- ---- the sheet of the exchange
 

@@ -1,4 +1,4 @@
-// Checking anybody's sheet against the lists of a year.
+// Checking anybody's sheet against the lists of a year. A function `.._fault` tells the first fault, None where there is none.
 ghost use Prim.Native.Nat.{_/_, _≤_};
 ghost use lib.Dec.{eqb};
 ghost use lib.ListN.{length, getD};
@@ -16,8 +16,6 @@ use lists::refusals::Refusal;
 
 // the mark of a stand that a trader before got
 const TAKEN: u8 = 1;
-
-// Each of these functions tells the first fault, None where there is none.
 
 // The sheet has an entry for each trader, and no more.
 fn length_fault(sheet: &[u8], n: u16) -> Option<Refusal>
@@ -109,13 +107,9 @@ fn trader_fault(sheet: &[u8], n: u16, list: &[u8], trader: u16, taken: &[u8]) ->
     requires { ⌜ n ≤ length (now taken) ⌝ ∗ ⌜ length (now list) ≤ 510 ⌝ }
     ensures { λ r. ⌜ r ≡ entry-fault (now (sheet .entry)) n trader (numbers (now (list .entry))) (eqb (getD (now (taken .entry)) (stand-in (now (sheet .entry)) trader) 0) 1) ⌝ }
 {
-    if let Some(fault) = taken_fault(sheet, n, trader, taken) {
-        return Some(fault);
-    }
-    if let Some(fault) = dearer_fault(sheet, list, trader) {
-        return Some(fault);
-    }
-    holder_fault(sheet, trader)
+    taken_fault(sheet, n, trader, taken)
+        .or(dearer_fault(sheet, list, trader))
+        .or(holder_fault(sheet, trader))
 }
 
 // The entries of all traders, one after the other.

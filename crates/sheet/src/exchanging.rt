@@ -4,7 +4,6 @@ ghost use Rattle.lists.specs.Format.{fault, lists-of, number-at, unless};
 ghost use Rattle.rounds.specs.Run.{exchanged, results-left};
 ghost use Rattle.sheet.specs.Exchange.{Promised-by, entries, exchange-fault, put-entry, sheet-left, work-cleared};
 ghost use Rattle.std.specs.declared.option.Option.the-variants.{None};
-ghost use Rattle.std.specs.declared.result.Result.the-variants.{Ok};
 ghost use lib.ListN.{drop, length, replicate};
 ghost use mathlib.Core.List.{_++_};
 ghost use mathlib.Core.Path.{_≡_};
@@ -54,7 +53,7 @@ fn exchange_all(
     requires accepted { ⌜ fault (now bytes) ≡ None ⌝ }
     requires traders { ⌜ n ≡ number-at (now bytes) 0 ⌝ }
     requires room { ⌜ n ≤ length (now results) ⌝ ∗ ⌜ 4 * n ≤ length (now sheet) ⌝ ∗ ⌜ 3 * n ≤ length (now work) ⌝ }
-    ensures answer { λ r. ⌜ r ≡ Ok (exchanged (lists-of (now (bytes .entry)))) ⌝ }
+    ensures answer { λ r. ⌜ r ≡ unless (exchange-fault (now (bytes .entry)) (length (now (results .entry))) (length (now (sheet .entry))) (length (now (work .entry)))) (exchanged (lists-of (now (bytes .entry)))) ⌝ }
     ensures results { λ r. ⌜ now (results .exit) ≡ results-left r (lists-of (now (bytes .entry))) (now (results .entry)) ⌝ }
     ensures sheet { λ r. ⌜ now (sheet .exit) ≡ sheet-left r (lists-of (now (bytes .entry))) (now (sheet .entry)) ⌝ }
     ensures work { λ r. ⌜ now (work .exit) ≡ work-cleared r (lists-of (now (bytes .entry))) (now (work .entry)) ⌝ }

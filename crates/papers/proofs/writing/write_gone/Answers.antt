@@ -6,21 +6,9 @@ use Rattle.std.proofs.shelf.Lists.{take-all}
 use Rattle.lists.specs.Format.{bytes-of, numbers}
 use Rattle.sheet.specs.Sheet.{round-in}
 use Rattle.papers.specs.Paper.{dearer-than, gone-bytes, written}
-use Rattle.papers.proofs.Places.{dearer-few, dearer-is, numbers-count}
+use Rattle.papers.proofs.Places.{dearer-is}
 use Rattle.papers.proofs.Writes.{gone-written, written-none}
 use Rattle.papers.proofs.writing.write_gone.Needs as need
-
-pub number-at-holder-requires : need.number-at-holder-requires
-number-at-holder-requires c κs =
-    let few = dearer-few (c .args .stand) (numbers (c .args .stands .now)) in
-    let all = numbers-count (c .args .stands .now) in
-    omega (arith, c .pre .dearer)
-
-pub round-in-requires : need.round-in-requires
-round-in-requires c κs =
-    let few = dearer-few (c .args .stand) (numbers (c .args .stands .now)) in
-    let all = numbers-count (c .args .stands .now) in
-    rw (c .number-at-holder .ensures) (c .pre .exist (c .loop-j .j) (omega (arith, c .pre .dearer)))
 
 pub loop-j-holds : need.loop-j-holds
 unfolding gone-bytes

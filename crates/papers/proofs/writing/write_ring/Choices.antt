@@ -1,4 +1,3 @@
-use Prim.Native.Nat.{_<_}
 use mathlib.Core.Path.{_≡_}
 use lib.ListN.{take}
 use Rattle.theory.specs.Certificate.{steps}
@@ -9,6 +8,5 @@ use Rattle.papers.proofs.writing.write_ring.Given as given
 
 abbrev pub Inv-loop-k : given.InvT-loop-k
 Inv-loop-k l =
-    (l .at < l .n)
-    × (l .at ≡ steps (stand-in (l .sheet)) (l .k) (l .trader))
+    (l .at ≡ steps (stand-in (l .sheet)) (l .k) (l .trader))
     × (l .out ≡ written 8 (encode-stands (take (l .k) (ring-of (l .sheet) (l .n) (l .trader)))) (l .entry .out))

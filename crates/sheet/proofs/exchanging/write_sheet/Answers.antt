@@ -1,7 +1,5 @@
-use Prim.Native.Nat.{_+_, _*_}
 use native.Mathlib.Omega.{arith}
-use mathlib.Core.Path.{_≡_, _∙_}
-use lib.ListN.{getD}
+use mathlib.Core.Path.{_∙_}
 use Rattle.sheet.proofs.Writing.{entries-more}
 use Rattle.sheet.proofs.exchanging.write_sheet.Needs as need
 
