@@ -10,8 +10,8 @@ use Rattle.std.specs.declared.option.Option.{Option}
 use Rattle.std.specs.declared.option.Option.the-variants.{Some, None}
 use Rattle.std.specs.declared.result.Result.{Result}
 use Rattle.std.specs.declared.result.Result.the-variants.{Ok, Err}
-use Rattle.lists.specs.declared.refusals.Refusal.{Refusal}
-use Rattle.lists.specs.declared.refusals.Refusal.the-variants.{PaperFault}
+use Rattle.refusals.specs.declared.Refusal.{Refusal}
+use Rattle.refusals.specs.declared.Refusal.the-variants.{PaperFault}
 use Rattle.lists.specs.Format.{bytes-of, end-fault, fault, lists-of, number-at, or-else, start}
 use Rattle.theory.specs.Trade.{result}
 use Rattle.sheet.specs.Sheet.{Valid, check-fault}

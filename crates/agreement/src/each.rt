@@ -6,9 +6,9 @@ ghost use Rattle.std.specs.declared.option.Option.the-variants.{None};
 ghost use Rattle.lists.specs.Format.{fault, next-start, number-at};
 ghost use Rattle.agreement.specs.Agreement.{first-fault, list-at, on-paper, own-fault, paper-at, paper-start, place-fault, unless};
 use crate::Fault;
-use lists::refusals::Refusal;
 use papers::checking::check_paper;
 use papers::splitting::first_size;
+use refusals::Refusal;
 
 // The list that begins at byte `at`: its count's byte and its stands.
 fn list_in(lists: &[u8], at: usize) -> &[u8]

@@ -8,7 +8,7 @@ mod together;
 
 use each::check_each;
 use lists::reading::read;
-use lists::refusals::Refusal;
+use refusals::Refusal;
 use together::check_together;
 
 // Why papers are refused.

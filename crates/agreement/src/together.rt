@@ -12,8 +12,8 @@ ghost use Rattle.agreement.specs.Agreement.{Agreed-by, agree-fault, difference
 use crate::Fault;
 use crate::each::paper_in;
 use lists::bytes::number_at;
-use lists::refusals::Refusal;
 use papers::writing::paper;
+use refusals::Refusal;
 use sheet::checking::check;
 
 // The most that a sheet has: four bytes for each of 4,000 traders.

@@ -8,9 +8,9 @@ use console::EndedFromAlloc;
 use console::EndedFromIo;
 use console::read_input;
 use console::refusal_line;
-use lists::refusals::Refusal;
 use options::Command;
 use options::Files;
+use refusals::Refusal;
 use sheet::checking::check;
 
 // The longest lists that can be accepted have 2 + 4000 * (1 + 2 * 40) bytes; one byte more tells a file that is too long.

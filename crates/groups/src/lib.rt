@@ -16,10 +16,10 @@ use lists::bytes::number_at;
 use lists::reading::list_at;
 use lists::reading::read;
 use lists::reading::start_of;
-use lists::refusals::Lent;
-use lists::refusals::Refusal;
-use lists::refusals::RefusalDebug;
-use lists::refusals::RefusalPartialEq;
+use refusals::Lent;
+use refusals::Refusal;
+use refusals::RefusalDebug;
+use refusals::RefusalPartialEq;
 
 // the most traders that a search is made for
 const MOST: usize = 8;
