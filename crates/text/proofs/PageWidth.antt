@@ -16,10 +16,10 @@ use Rattle.std.proofs.shelf.Lists.{getD-default, getD-past}
 use Rattle.std.proofs.shelf.Tests.{cases-bool, cases-lt, ltb-true}
 use Rattle.theory.specs.Promise.{Distinct}
 use Rattle.refusals.specs.declared.Refusal.{Refusal}
-use Rattle.lists.specs.Format.{end-fault, length-fault, list-bytes, list-fault, next-start, number-at, numbers, or-else, stands-fault}
+use Rattle.lists.specs.Format.{end-fault, length-fault, list-bytes, list-fault, next-start, number-at, numbers, or-else, own-list-fault, stands-fault}
 use Rattle.lists.proofs.Accepted.{all-distinct, good-list, good-numbers, no-fault-both}
 use Rattle.lists.proofs.Positions.{numbers-from}
-use Rattle.papers.specs.Faults.{fields-fault, own-list-fault, owner, paper-check-fault}
+use Rattle.papers.specs.Faults.{fields-fault, owner, paper-check-fault}
 use Rattle.papers.specs.Paper.{count-on, dearer-than, gone-on, holder-on, own-on, ring-length, ring-on, round-on, stand-on}
 use Rattle.papers.proofs.Agrees.{whole}
 use Rattle.papers.proofs.Places.{dearer-few, dearer-there}
