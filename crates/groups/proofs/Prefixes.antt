@@ -14,10 +14,10 @@ use Rattle.groups.specs.Sharings.{may, Sharing, Sound, Agrees, Hopeless, Broug
 
 -- one more choice: the new one, and those before
 module _ (chosen : List ℕ) (i x : ℕ) where
-  new-is : i < length chosen → stand-of (set chosen i x) i ≡ x
+  pub new-is : i < length chosen → stand-of (set chosen i x) i ≡ x
   new-is room = getD-set-same chosen i x 0 room
 
-  old-is : (j : ℕ) → j < i → stand-of (set chosen i x) j ≡ stand-of chosen j
+  pub old-is : (j : ℕ) → j < i → stand-of (set chosen i x) j ≡ stand-of chosen j
   old-is j h = getD-set-other chosen i j x 0 (omega arith)
 
   split : (j : ℕ) → j < i + 1 → (j ≡ i) ⊎ (j < i)
@@ -80,6 +80,28 @@ module _ (n : ℕ) (table : List Bool) (chosen : List ℕ) (i : ℕ) (room : i <
         ];
       }
 
+-- a group that goes by the choices for the first i traders goes by one more
+module _ (chosen : List ℕ) (i : ℕ) (room : i < length chosen) (group : ℕ → Bool) (share : ℕ → ℕ) (agrees : Agrees chosen i group share) where
+  pub agrees-in : (t : ℕ) → t < 65535 → group i ≡ true → share i ≡ t → Agrees (set chosen i t) (i + 1) group share
+  agrees-in t small in-it is j h =
+      elim (split chosen i t j h) [
+        | inl e ↦
+            let new = new-is chosen i t room in
+            let member : in-group (set chosen i t) i ≡ true = grind arith in
+            rw e (in-it ∙ sym member, λ _. is ∙ sym new)
+        | inr lt ↦ let old = old-is chosen i t j lt in rw old (agrees j lt)
+      ]
+
+  pub agrees-out : group i ≡ false → Agrees (set chosen i 65535) (i + 1) group share
+  agrees-out stays j h =
+      elim (split chosen i 65535 j h) [
+        | inl e ↦
+            let new = new-is chosen i 65535 room in
+            let member : in-group (set chosen i 65535) i ≡ false = grind arith in
+            rw e (stays ∙ sym member, λ in-it. absurd (grind arith))
+        | inr lt ↦ let old = old-is chosen i 65535 j lt in rw old (agrees j lt)
+      ]
+
 -- no group that goes by the choices for the first i traders, and gives trader i stand t, could do better
 abbrev pub Hopeless-with : ℕ → List Bool → (ℕ → ℕ) → List ℕ → ℕ → ℕ → Type 0
 Hopeless-with n table got chosen i t =
@@ -105,17 +127,7 @@ module _ (n : ℕ) (table : List Bool) (got : ℕ → ℕ) (chosen : List ℕ) (
       omega arith
 
   pub tried : t < 65535 → i < length chosen → Hopeless n table got (set chosen i t) (i + 1) → Hopeless-with n table got chosen i t
-  tried small room none group share agrees s in-it is = none group share agrees′ s
-    where
-      agrees′ : Agrees (set chosen i t) (i + 1) group share
-      agrees′ j h =
-          elim (split chosen i t j h) [
-            | inl e ↦
-                let new = new-is chosen i t room in
-                let member : in-group (set chosen i t) i ≡ true = grind arith in
-                rw e (in-it ∙ sym member, λ _. is ∙ sym new)
-            | inr lt ↦ let old = old-is chosen i t j lt in rw old (agrees j lt)
-          ]
+  tried small room none group share agrees s in-it is = none group share (agrees-in chosen i room group share agrees t small in-it is) s
 
 -- trader i stays out, or gets some stand: where no way serves, none is left
 pub all-tried : (n : ℕ) (table : List Bool) (got : ℕ → ℕ) (chosen : List ℕ) (i : ℕ) → i < n → i < length chosen →
@@ -124,18 +136,8 @@ pub all-tried : (n : ℕ) (table : List Bool) (got : ℕ → ℕ) (chosen : List
 all-tried n table got chosen i more room out all group share agrees s =
     elim (cases-bool (group i)) [
       | inl in-it ↦ all (share i) (s .among i more in-it .0) group share agrees s in-it refl
-      | inr stays ↦ out group share (agrees′ stays) s
+      | inr stays ↦ out group share (agrees-out chosen i room group share agrees stays) s
     ]
-  where
-    agrees′ : group i ≡ false → Agrees (set chosen i 65535) (i + 1) group share
-    agrees′ stays j h =
-        elim (split chosen i 65535 j h) [
-          | inl e ↦
-              let new = new-is chosen i 65535 room in
-              let member : in-group (set chosen i 65535) i ≡ false = grind arith in
-              rw e (stays ∙ sym member, λ in-it. absurd (grind arith))
-          | inr lt ↦ let old = old-is chosen i 65535 j lt in rw old (agrees j lt)
-        ]
 
 -- all traders have their choice
 module _ (n i : ℕ) (all : i ≡ n) (table : List Bool) (results chosen : List ℕ) where

@@ -2,12 +2,12 @@
 use mathlib.Core.Path.{_≡_}
 use mathlib.Core.Bool.{Bool, true, false}
 use mathlib.Core.List.{List}
-use Prim.Native.Nat.{ℕ, _+_, _*_, _<_}
+use Prim.Native.Nat.{ℕ, _+_, _*_, _≤_, _<_}
 use lib.Dec.{leb}
 use lib.ListN.{length, getD}
 use Rattle.theory.specs.Promise.{rank}
 use Rattle.theory.specs.Trade.{Lists}
-use Rattle.groups.specs.Groups.{in-group, stand-of}
+use Rattle.groups.specs.Groups.{Before, Same-at, in-group, stand-of}
 
 -- stand t may be given to trader i
 abbrev pub may : List Bool → ℕ → ℕ → Bool
@@ -33,13 +33,20 @@ pub record Sound (n : ℕ) (table : List Bool) (chosen : List ℕ) (i : ℕ) : T
 
 -- a group and its share go by the choices for the first i traders
 abbrev pub Agrees : List ℕ → ℕ → (ℕ → Bool) → (ℕ → ℕ) → Type 0
-Agrees chosen i group share =
-    (j : ℕ) → j < i → (group j ≡ in-group chosen j) × (group j ≡ true → share j ≡ stand-of chosen j)
+Agrees chosen i group share = (j : ℕ) → j < i → Same-at group share (in-group chosen) (stand-of chosen) j
 
 -- no group that goes by the choices for the first i traders could do better
 abbrev pub Hopeless : ℕ → List Bool → (ℕ → ℕ) → List ℕ → ℕ → Type 0
 Hopeless n table got chosen i =
     (group : ℕ → Bool) (share : ℕ → ℕ) → Agrees chosen i group share → Sharing n table got group share → ⊥
+
+-- a share that goes by the choices for the first i traders, and of all those the first by which a group could do better
+pub record Found (n : ℕ) (table : List Bool) (got : ℕ → ℕ) (chosen : List ℕ) (i : ℕ) (share : List ℕ) : Type 0 where
+  pub serves : Sharing n table got (in-group share) (stand-of share)
+  pub none-before : (group : ℕ → Bool) (other : ℕ → ℕ) → Agrees chosen i group other → Sharing n table got group other →
+      Before n group other (in-group share) (stand-of share) → ⊥
+  pub kept : (j : ℕ) → j < i → stand-of share j ≡ stand-of chosen j
+  pub past : (j : ℕ) → n ≤ j → stand-of share j ≡ stand-of chosen j
 
 -- every stand chosen is one that the group brought
 abbrev pub Brought : ℕ → List ℕ → Type 0

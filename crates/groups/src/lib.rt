@@ -10,8 +10,8 @@ ghost use Rattle.std.specs.Options.{Cases as BySome};
 ghost use Rattle.std.specs.declared.option.Option.the-variants.{None};
 ghost use Rattle.lists.specs.Format.{fault, lists-of, number-at, numbers};
 ghost use Rattle.theory.specs.Promise.{rank-in};
-ghost use Rattle.groups.specs.Groups.{Outcome, Right-answer, in-group, stand-of};
-ghost use Rattle.groups.specs.Sharings.{Brought, Differs, Hopeless, Right, Same, Sharing, Sound, Unbrought};
+ghost use Rattle.groups.specs.Groups.{Answer-determined, Outcome, Outcome-determined, Right-answer, in-group, stand-of};
+ghost use Rattle.groups.specs.Sharings.{Brought, Differs, Found, Hopeless, Right, Same, Sound, Unbrought};
 use lists::bytes::number_at;
 use lists::reading::list_at;
 use lists::reading::read;
@@ -131,7 +131,7 @@ fn complete(
 ) -> Option<[u16; 8]>
     requires few { ⌜ i ≤ n ⌝ ∗ ⌜ n ≤ 8 ⌝ ∗ ⌜ n ≤ length (now results) ⌝ ∗ ⌜ length (now table) ≡ 64 ⌝ }
     requires sound { ⌜ Sound n (now table) chosen i ⌝ }
-    ensures { λ r. ⌜ BySome r (Hopeless n (now (table .entry)) (stand-of (now (results .entry))) chosen i) (λ share. Sharing n (now (table .entry)) (stand-of (now (results .entry))) (in-group share) (stand-of share)) ⌝ }
+    ensures { λ r. ⌜ BySome r (Hopeless n (now (table .entry)) (stand-of (now (results .entry))) chosen i) (λ share. Found n (now (table .entry)) (stand-of (now (results .entry))) chosen i share) ⌝ }
 {
     if i == n {
         if all_brought(&chosen, n) && some_differs(&chosen, results, n) {
@@ -187,6 +187,20 @@ fn search_year(bytes: &[u8], results: &[u16], n: u16) -> Answer
         Some(share) => Answer::Bettered { share },
         None => Answer::Unbettered,
     }
+}
+
+// Two answers that are both right for the same lists and results are equal.
+pub fn answer_determined() -> u8
+    ensures { λ _. ⌜ Answer-determined ⌝ }
+{
+    0
+}
+
+// For all bytes and results there is one outcome.
+pub fn outcome_determined() -> u8
+    ensures { λ _. ⌜ Outcome-determined ⌝ }
+{
+    0
 }
 
 #[cfg(test)]

@@ -5,13 +5,14 @@ use borrow.Author.Needs.{needs}
 use lib.ListN.{length}
 use native.Mathlib.Omega.{arith}
 use Rattle.groups.specs.Groups.{stand-of}
-use Rattle.groups.proofs.Prefixes.{Hopeless-with, sound-out, sound-gets, less-dear, twice, tried, all-tried, serves, not-brought, all-the-same}
+use Rattle.groups.proofs.Prefixes.{Hopeless-with, sound-out, sound-gets, less-dear, twice, tried, all-tried, not-brought, all-the-same}
+use Rattle.groups.proofs.Firsts.{found-end, found-out, found-gets}
 use Rattle.groups.proofs.+complete.Needs as need
 use Rattle.groups.proofs.+complete.Needs.{else-all-brought·by·then-all-brought·else-some-differs, else-all-brought·by·else-all-brought, then-table-i·then-not-taken·in-rest-complete, else-table-i, else-table-i·by·then-table-i·else-not-taken, else-table-i·by·else-table-i}
 
 pub returns-then-some-differs : need.returns-then-some-differs
 returns-then-some-differs m c =
-    serves (c .args .n) (c .args .i) (c .if-i-n .taken) (c .args .table .now) (c .args .results .now) (c .args .chosen) (c .pre .sound)
+    found-end (c .args .n) (c .args .i) (c .if-i-n .taken) (c .args .table .now) (c .args .results .now) (c .args .chosen) (c .pre .sound)
     (c .all-brought .ensures .found (c .if-all-brought .taken)) (c .some-differs .ensures .found (c .if-some-differs .taken))
 
 pub returns-then-i-n : need.returns-then-i-n
@@ -64,3 +65,15 @@ returns m c =
     let room : c .args .i < length (c .args .chosen) = omega arith in
     all-tried (c .args .n) (c .args .table .now) _ (c .args .chosen) (c .args .i) (omega arith) room (c .in-rest .ensures tt)
     (λ u h. c .loop-stand .inv u (omega arith))
+
+pub returns-in-Some : need.returns-in-Some
+returns-in-Some t c =
+    let room : c .args .i < length (c .args .chosen) = omega arith in
+    found-out (c .args .n) (c .args .table .now) (stand-of (c .args .results .now)) (c .args .chosen) (c .args .i) (omega arith) room (c .in-Some .share)
+    (c .in-Some .ensures tt)
+
+pub returns-in-Some-complete : need.returns-in-Some-complete
+returns-in-Some-complete t c =
+    let room : c .args .i < length (c .args .chosen) = omega arith in
+    found-gets (c .args .n) (c .args .table .now) (stand-of (c .args .results .now)) (c .args .chosen) (c .args .i) (omega arith) room (c .in-Some-complete .share)
+    (c .loop-stand .stand) (omega arith) (c .in-rest .ensures tt) (c .loop-stand .inv) (c .in-Some-complete .ensures tt)
