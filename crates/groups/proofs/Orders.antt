@@ -3,19 +3,19 @@ use mathlib.Core.Path.{_≡_, refl, sym, ap, _∙_}
 use mathlib.Core.Bool.{Bool, true, false, not}
 use mathlib.Core.List.{List}
 use mathlib.Core.Logic.{_⊎_, inl, inr}
-use Prim.Native.Nat.{ℕ, suc, zero, _+_, _<_, _≤_}
+use Prim.Native.Nat.{ℕ, suc, zero, _<_, _≤_}
 use native.Mathlib.Omega.{arith}
 use lib.Dec.{eqb}
 use lib.ListN.{length, getD}
 use Rattle.std.proofs.shelf.Lists.{ext-getD}
 use Rattle.std.proofs.shelf.Tests.{cases-eq, cases-lt, cases-bool, eqb-true, false≢true, not-false}
-use Rattle.std.specs.declared.option.Option.the-variants.{Some, None}
 use Rattle.std.specs.declared.result.Result.the-variants.{Ok, Err}
 use Rattle.lists.specs.Format.{lists-of}
 use Rattle.theory.specs.Trade.{Lists}
 use Rattle.groups.specs.declared.Answer.the-variants.{Bettered, Unbettered}
 use Rattle.groups.specs.Groups.{Answer-determined, Before, Earlier-at, First-share, Outcome-determined, Same-at, in-group, stand-of}
 use Rattle.groups.specs.Sharings.{Agrees}
+use Rattle.groups.proofs.Prefixes.{turn-of}
 
 -- where two shares do the same, neither is earlier
 pub not-earlier : (group : ℕ → Bool) (share : ℕ → ℕ) (group′ : ℕ → Bool) (share′ : ℕ → ℕ) (j : ℕ) →
@@ -25,6 +25,18 @@ not-earlier group share group′ share′ j same earlier =
       | inl e ↦ false≢true (sym (e .0) ∙ (same .0 ∙ e .1))
       | inr e ↦ let is : share j ≡ share′ j = same .1 (e .0) in let lower : share j < share′ j = e .2 in omega arith
     ]
+
+-- two shares that do the same with a trader do it in the same turn, and the earlier one in an earlier turn
+module _ (group : ℕ → Bool) (share : ℕ → ℕ) (group′ : ℕ → Bool) (share′ : ℕ → ℕ) (j : ℕ) where
+  pub same-turn : Same-at group share group′ share′ j → turn-of group share j ≡ turn-of group′ share′ j
+  same-turn same =
+      elim (cases-bool (group j)) [
+        | inl in-it ↦ let e = same .1 in-it in rw (in-it, sym (same .0) ∙ in-it, e)
+        | inr out ↦ rw (out, sym (same .0) ∙ out)
+      ]
+
+  pub earlier-turn : Earlier-at group share group′ share′ j → turn-of group share j < turn-of group′ share′ j
+  earlier-turn earlier = elim earlier [ inl e ↦ rw (e .0, e .1) (omega arith) | inr e ↦ let lower = e .2 in rw (e .0, e .1) (omega arith) ]
 
 -- a share that comes before another and does the same with the first i traders does the same with trader i, or is earlier by it
 pub next-same-or-earlier : (n i : ℕ) (group : ℕ → Bool) (other : ℕ → ℕ) (share : List ℕ) →

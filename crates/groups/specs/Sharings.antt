@@ -1,10 +1,10 @@
 -- What the search for a group goes by: a table of what may be given, and choices made for the first traders.
 use mathlib.Core.Path.{_≡_}
-use mathlib.Core.Bool.{Bool, true, false}
+use mathlib.Core.Bool.{Bool, true, false, cond}
 use mathlib.Core.List.{List}
-use Prim.Native.Nat.{ℕ, _+_, _*_, _≤_, _<_}
-use lib.Dec.{leb}
-use lib.ListN.{length, getD}
+use Prim.Native.Nat.{ℕ, _+_, _-_, _*_, _≤_, _<_}
+use lib.Dec.{eqb, leb}
+use lib.ListN.{getD}
 use Rattle.theory.specs.Promise.{rank}
 use Rattle.theory.specs.Trade.{Lists}
 use Rattle.groups.specs.Groups.{Before, Same-at, in-group, stand-of}
@@ -24,6 +24,18 @@ pub record Sharing (n : ℕ) (table : List Bool) (got : ℕ → ℕ) (group : �
   pub apart : (i j : ℕ) → i < n → j < n → group i ≡ true → group j ≡ true → share i ≡ share j → i ≡ j
   pub fine : (i : ℕ) → i < n → group i ≡ true → may table i (share i) ≡ true
   pub another : (i : ℕ) × (i < n) × (group i ≡ true) × (share i ≡ got i → ⊥)
+
+-- what is tried for a trader, turn by turn: to stay out of the group, and then the stands from 0 on
+abbrev pub choice-in : ℕ → ℕ
+choice-in turn = cond (eqb turn 0) 65535 (turn - 1)
+
+-- one of the first i traders has the stand by the choices
+abbrev pub Taken : List ℕ → ℕ → ℕ → Type 0
+Taken chosen i stand = (j : ℕ) × (j < i) × (stand-of chosen j ≡ stand)
+
+-- none of them has
+abbrev pub Free : List ℕ → ℕ → ℕ → Type 0
+Free chosen i stand = (j : ℕ) → j < i → stand-of chosen j ≡ stand → ⊥
 
 -- the choices for the first i traders break nothing
 pub record Sound (n : ℕ) (table : List Bool) (chosen : List ℕ) (i : ℕ) : Type 0 where

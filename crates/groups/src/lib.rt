@@ -11,7 +11,7 @@ ghost use Rattle.std.specs.declared.option.Option.the-variants.{None};
 ghost use Rattle.lists.specs.Format.{fault, lists-of, number-at, numbers};
 ghost use Rattle.theory.specs.Promise.{rank-in};
 ghost use Rattle.groups.specs.Groups.{Answer-determined, Outcome, Outcome-determined, Right-answer, in-group, stand-of};
-ghost use Rattle.groups.specs.Sharings.{Brought, Differs, Found, Hopeless, Right, Same, Sound, Unbrought};
+ghost use Rattle.groups.specs.Sharings.{Brought, Differs, Found, Free, Hopeless, Right, Same, Sound, Taken, Unbrought, choice-in, may};
 use lists::bytes::number_at;
 use lists::reading::list_at;
 use lists::reading::read;
@@ -80,8 +80,8 @@ fn table_of(bytes: &[u8], results: &[u16], n: u16) -> [bool; 64]
 // A stand was chosen for one of the first i traders.
 fn taken(chosen: &[u16], i: usize, stand: u16) -> bool
     requires { ⌜ i ≤ length (now chosen) ⌝ }
-    ensures found { λ r. ⌜ (r ≡ true → ((j : ℕ) × (j < i) × (stand-of (now (chosen .entry)) j ≡ stand))) ⌝ }
-    ensures none { λ r. ⌜ (r ≡ false → (j : ℕ) → j < i → stand-of (now (chosen .entry)) j ≡ stand → ⊥) ⌝ }
+    ensures found { λ r. ⌜ (r ≡ true → Taken (now (chosen .entry)) i stand) ⌝ }
+    ensures none { λ r. ⌜ (r ≡ false → Free (now (chosen .entry)) i stand) ⌝ }
 {
     for j in 0..i {
         if chosen[j] == stand {
@@ -121,6 +121,27 @@ fn some_differs(chosen: &[u16], results: &[u16], n: usize) -> bool
     false
 }
 
+// What is tried for a trader, turn by turn: to stay out of the group, and then the stands from 0 on.
+fn choice_in(turn: usize) -> u16
+    requires { ⌜ turn ≤ 8 ⌝ }
+    ensures { λ r. ⌜ r ≡ choice-in turn ⌝ }
+{
+    if turn == 0 { OUT } else { turn as u16 - 1 }
+}
+
+// Trader i may stay out, or have a stand that is dear enough and that was not chosen before.
+fn may_have(table: &[bool], chosen: &[u16], i: usize, choice: u16) -> bool
+    requires within { ⌜ i < 8 ⌝ ∗ ⌜ i ≤ length (now chosen) ⌝ ∗ ⌜ length (now table) ≡ 64 ⌝ }
+    requires stand { ⌜ ((choice ≡ 65535 → ⊥) → choice < 8) ⌝ }
+    ensures allowed { λ r. ⌜ (r ≡ true → (choice ≡ 65535 → ⊥) → (may (now (table .entry)) i choice ≡ true) × Free (now (chosen .entry)) i choice) ⌝ }
+    ensures refused { λ r. ⌜ (r ≡ false → (choice ≡ 65535 → ⊥) × (may (now (table .entry)) i choice ≡ true → Taken (now (chosen .entry)) i choice)) ⌝ }
+{
+    if choice == OUT {
+        return true;
+    }
+    table[8 * i + choice as usize] && !taken(chosen, i, choice)
+}
+
 // Goes on from the choices for the first i traders: each of the others stays out or gets a stand, in all ways that can serve.
 fn complete(
     table: &[bool],
@@ -139,16 +160,12 @@ fn complete(
         }
         return None;
     }
-    let mut stays_out = chosen;
-    stays_out[i] = OUT;
-    if let Some(share) = complete(table, results, n, i + 1, stays_out) {
-        return Some(share);
-    }
-    for stand in 0..n {
-        if table[8 * i + stand] && !taken(&chosen, i, stand as u16) {
-            let mut gets = chosen;
-            gets[i] = stand as u16;
-            if let Some(share) = complete(table, results, n, i + 1, gets) {
+    for turn in 0..n + 1 {
+        let choice = choice_in(turn);
+        if may_have(table, &chosen, i, choice) {
+            let mut next = chosen;
+            next[i] = choice;
+            if let Some(share) = complete(table, results, n, i + 1, next) {
                 return Some(share);
             }
         }
