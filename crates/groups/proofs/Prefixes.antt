@@ -11,7 +11,7 @@ use lib.ListN.{length, getD, set}
 use Rattle.std.proofs.shelf.Lists.{getD-set-same, getD-set-other}
 use Rattle.std.proofs.shelf.Tests.{both-ways, cases-eq, cases-bool}
 use Rattle.groups.specs.Groups.{in-group, stand-of}
-use Rattle.groups.specs.Sharings.{may, choice-in, Taken, Free, Sharing, Sound, Agrees, Hopeless, Brought, Unbrought, Differs, Same}
+use Rattle.groups.specs.Sharings.{may, choice-in, May-have, May-not-have, Sharing, Sound, Agrees, Hopeless, Brought, Unbrought, Differs, Same}
 
 -- one more choice: the new one, and those before
 module _ (chosen : List ℕ) (i x : ℕ) where
@@ -26,15 +26,15 @@ module _ (chosen : List ℕ) (i x : ℕ) where
 
 -- trader i stays out, or gets a stand that may be given and is free
 pub sound-next : (n : ℕ) (table : List Bool) (chosen : List ℕ) (i : ℕ) → i < length chosen → Sound n table chosen i →
-    (x : ℕ) → ((x ≡ 65535 → ⊥) → (x < n) × (may table i x ≡ true) × Free chosen i x) → Sound n table (set chosen i x) (i + 1)
-sound-next n table chosen i room sound x fits =
+    (x : ℕ) → ((x ≡ 65535 → ⊥) → x < n) → May-have table chosen i x → Sound n table (set chosen i x) (i + 1)
+sound-next n table chosen i room sound x below may-have =
     record {
       below = λ j h m. elim (split chosen i x j h) [
-        | inl e ↦ rw (e, new) (fits (stand (rw e at m)) .0)
+        | inl e ↦ rw (e, new) (below (stand (rw e at m)))
         | inr lt ↦ let old = old-is chosen i x j lt in rw old (sound .below j lt (rw old at m))
       ];
       fine = λ j h m. elim (split chosen i x j h) [
-        | inl e ↦ rw (e, new) (fits (stand (rw e at m)) .1)
+        | inl e ↦ rw (e, new) (may-have (stand (rw e at m)) .0)
         | inr lt ↦ let old = old-is chosen i x j lt in rw old (sound .fine j lt (rw old at m))
       ];
       apart = λ j k hj hk mj mk e. elim (split chosen i x j hj) [
@@ -42,12 +42,12 @@ sound-next n table chosen i room sound x fits =
           | inl ek ↦ ej ∙ sym ek
           | inr ltk ↦
               let old = old-is chosen i x k ltk in
-              absurd (fits (stand (rw ej at mj)) .2 k ltk (sym old ∙ (sym e ∙ (ap (stand-of (set chosen i x)) ej ∙ new))))
+              absurd (may-have (stand (rw ej at mj)) .1 k ltk (sym old ∙ (sym e ∙ (ap (stand-of (set chosen i x)) ej ∙ new))))
         ]
         | inr ltj ↦ elim (split chosen i x k hk) [
           | inl ek ↦
               let old = old-is chosen i x j ltj in
-              absurd (fits (stand (rw ek at mk)) .2 j ltj (sym old ∙ (e ∙ (ap (stand-of (set chosen i x)) ek ∙ new))))
+              absurd (may-have (stand (rw ek at mk)) .1 j ltj (sym old ∙ (e ∙ (ap (stand-of (set chosen i x)) ek ∙ new))))
           | inr ltk ↦
               let oldj = old-is chosen i x j ltj in
               let oldk = old-is chosen i x k ltk in
@@ -89,25 +89,27 @@ pub choice-below : (n turn x : ℕ) → x ≡ choice-in turn → turn < n + 1 �
 choice-below n turn x is last stand = grind arith
 
 -- a stand that is less dear, or that another has, cannot serve
-pub not-had : (n : ℕ) (table : List Bool) (got : ℕ → ℕ) (chosen : List ℕ) (i : ℕ) → i < n → i < length chosen → (x : ℕ) → (x ≡ 65535 → ⊥) →
-    (may table i x ≡ true → Taken chosen i x) → Hopeless n table got (set chosen i x) (i + 1)
-not-had n table got chosen i more room x stand taken group share agrees s =
-    let new = new-is chosen i x room in
-    let way = agrees i (omega arith) in
-    let member : in-group (set chosen i x) i ≡ true = grind arith in
-    let in-it : group i ≡ true = way .0 ∙ member in
-    let is : share i ≡ x = way .1 in-it ∙ new in
-    let fine = s .fine i more in-it in
-    let at = taken (rw is at fine) in
-    let j = at .0 in
-    let lt = at .1 in
-    let there : stand-of (set chosen i x) j ≡ x = old-is chosen i x j lt ∙ at .2 in
-    let way-j = agrees j (omega arith) in
-    let member-j : in-group (set chosen i x) j ≡ true = grind arith in
-    let in-j : group j ≡ true = way-j .0 ∙ member-j in
-    let share-j : share j ≡ x = way-j .1 in-j ∙ there in
-    let same = s .apart j i (omega arith) more in-j in-it (share-j ∙ sym is) in
-    omega arith
+module _ (n : ℕ) (table : List Bool) (got : ℕ → ℕ) (chosen : List ℕ) (i : ℕ) (more : i < n) (room : i < length chosen) (x : ℕ) (stand : x ≡ 65535 → ⊥)
+    (group : ℕ → Bool) (share : ℕ → ℕ) (agrees : Agrees (set chosen i x) (i + 1) group share) (s : Sharing n table got group share) where
+  has : (j : ℕ) → j < i + 1 → stand-of (set chosen i x) j ≡ x → (group j ≡ true) × (share j ≡ x)
+  has j h there =
+      let member : in-group (set chosen i x) j ≡ true = grind arith in
+      let in-it : group j ≡ true = agrees j h .0 ∙ member in
+      (in-it, agrees j h .1 in-it ∙ there)
+
+  not-twice : (j : ℕ) → j < i → stand-of chosen j ≡ x → (group i ≡ true) × (share i ≡ x) → ⊥
+  not-twice j h there here =
+      let other = has j (omega arith) (old-is chosen i x j h ∙ there) in
+      let same = s .apart j i (omega arith) more (other .0) (here .0) (other .1 ∙ sym (here .1)) in
+      omega arith
+
+pub not-had : (n : ℕ) (table : List Bool) (got : ℕ → ℕ) (chosen : List ℕ) (i : ℕ) → i < n → i < length chosen → (x : ℕ) → May-not-have table chosen i x →
+    Hopeless n table got (set chosen i x) (i + 1)
+not-had n table got chosen i more room x refused group share agrees s =
+    let here = has n table got chosen i more room x (refused .0) group share agrees s i (omega arith) (new-is chosen i x room) in
+    let fine : may table i x ≡ true = rw (here .1) at (s .fine i more (here .0)) in
+    let at = refused .1 fine in
+    not-twice n table got chosen i more room x (refused .0) group share agrees s (at .0) (at .1) (at .2) here
 
 -- no turn of trader i serves
 abbrev pub Hopeless-until : ℕ → List Bool → (ℕ → ℕ) → List ℕ → ℕ → ℕ → Type 0

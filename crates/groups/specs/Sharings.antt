@@ -29,13 +29,18 @@ pub record Sharing (n : ℕ) (table : List Bool) (got : ℕ → ℕ) (group : �
 abbrev pub choice-in : ℕ → ℕ
 choice-in turn = cond (eqb turn 0) 65535 (turn - 1)
 
--- one of the first i traders has the stand by the choices
-abbrev pub Taken : List ℕ → ℕ → ℕ → Type 0
-Taken chosen i stand = (j : ℕ) × (j < i) × (stand-of chosen j ≡ stand)
-
--- none of them has
+-- none of the first i traders has the stand by the choices
 abbrev pub Free : List ℕ → ℕ → ℕ → Type 0
 Free chosen i stand = (j : ℕ) → j < i → stand-of chosen j ≡ stand → ⊥
+
+-- trader i may stay out, or have a stand that may be given and is free
+abbrev pub May-have : List Bool → List ℕ → ℕ → ℕ → Type 0
+May-have table chosen i choice = (choice ≡ 65535 → ⊥) → (may table i choice ≡ true) × Free chosen i choice
+
+-- the choice is a stand that may not be given, or that one of the first i traders has
+abbrev pub May-not-have : List Bool → List ℕ → ℕ → ℕ → Type 0
+May-not-have table chosen i choice =
+    (choice ≡ 65535 → ⊥) × (may table i choice ≡ true → (j : ℕ) × (j < i) × (stand-of chosen j ≡ choice))
 
 -- the choices for the first i traders break nothing
 pub record Sound (n : ℕ) (table : List Bool) (chosen : List ℕ) (i : ℕ) : Type 0 where

@@ -7,11 +7,12 @@ ghost use mathlib.Core.Bool.{true, false};
 ghost use mathlib.Core.List.{[]};
 ghost use mathlib.Core.Path.{_≡_};
 ghost use Rattle.std.specs.Options.{Cases as BySome};
+ghost use Rattle.std.specs.Orderings.{When};
 ghost use Rattle.std.specs.declared.option.Option.the-variants.{None};
 ghost use Rattle.lists.specs.Format.{fault, lists-of, number-at, numbers};
 ghost use Rattle.theory.specs.Promise.{rank-in};
 ghost use Rattle.groups.specs.Groups.{Answer-determined, Outcome, Outcome-determined, Right-answer, in-group, stand-of};
-ghost use Rattle.groups.specs.Sharings.{Brought, Differs, Found, Free, Hopeless, Right, Same, Sound, Taken, Unbrought, choice-in, may};
+ghost use Rattle.groups.specs.Sharings.{Brought, Differs, Found, Hopeless, May-have, May-not-have, Right, Same, Sound, Unbrought, choice-in};
 use lists::bytes::number_at;
 use lists::reading::list_at;
 use lists::reading::read;
@@ -77,26 +78,11 @@ fn table_of(bytes: &[u8], results: &[u16], n: u16) -> [bool; 64]
     table
 }
 
-// A stand was chosen for one of the first i traders.
-fn taken(chosen: &[u16], i: usize, stand: u16) -> bool
-    requires { ⌜ i ≤ length (now chosen) ⌝ }
-    ensures found { λ r. ⌜ (r ≡ true → Taken (now (chosen .entry)) i stand) ⌝ }
-    ensures none { λ r. ⌜ (r ≡ false → Free (now (chosen .entry)) i stand) ⌝ }
-{
-    for j in 0..i {
-        if chosen[j] == stand {
-            return true;
-        }
-    }
-    false
-}
-
 // Every stand chosen is one that the group brought.
 fn all_brought(chosen: &[u16], n: usize) -> bool
     requires { ⌜ n ≤ length (now chosen) ⌝ }
     requires below { ⌜ ((j : ℕ) → j < n → in-group (now chosen) j ≡ true → stand-of (now chosen) j < n) ⌝ }
-    ensures found { λ r. ⌜ (r ≡ true → Brought n (now (chosen .entry))) ⌝ }
-    ensures none { λ r. ⌜ (r ≡ false → Unbrought n (now (chosen .entry))) ⌝ }
+    ensures { λ r. ⌜ When r (Brought n (now (chosen .entry))) (Unbrought n (now (chosen .entry))) ⌝ }
 {
     for j in 0..n {
         let stand = chosen[j];
@@ -110,11 +96,11 @@ fn all_brought(chosen: &[u16], n: usize) -> bool
 // Somebody in the group has another stand than the one got.
 fn some_differs(chosen: &[u16], results: &[u16], n: usize) -> bool
     requires { ⌜ n ≤ length (now chosen) ⌝ ∗ ⌜ n ≤ length (now results) ⌝ }
-    ensures found { λ r. ⌜ (r ≡ true → Differs n (now (results .entry)) (now (chosen .entry))) ⌝ }
-    ensures none { λ r. ⌜ (r ≡ false → Same n (now (results .entry)) (now (chosen .entry))) ⌝ }
+    ensures { λ r. ⌜ When r (Differs n (now (results .entry)) (now (chosen .entry))) (Same n (now (results .entry)) (now (chosen .entry))) ⌝ }
 {
     for j in 0..n {
-        if chosen[j] != OUT && chosen[j] != results[j] {
+        let stand = chosen[j];
+        if stand != OUT && stand != results[j] {
             return true;
         }
     }
@@ -133,13 +119,20 @@ fn choice_in(turn: usize) -> u16
 fn may_have(table: &[bool], chosen: &[u16], i: usize, choice: u16) -> bool
     requires within { ⌜ i < 8 ⌝ ∗ ⌜ i ≤ length (now chosen) ⌝ ∗ ⌜ length (now table) ≡ 64 ⌝ }
     requires stand { ⌜ ((choice ≡ 65535 → ⊥) → choice < 8) ⌝ }
-    ensures allowed { λ r. ⌜ (r ≡ true → (choice ≡ 65535 → ⊥) → (may (now (table .entry)) i choice ≡ true) × Free (now (chosen .entry)) i choice) ⌝ }
-    ensures refused { λ r. ⌜ (r ≡ false → (choice ≡ 65535 → ⊥) × (may (now (table .entry)) i choice ≡ true → Taken (now (chosen .entry)) i choice)) ⌝ }
+    ensures { λ r. ⌜ When r (May-have (now (table .entry)) (now (chosen .entry)) i choice) (May-not-have (now (table .entry)) (now (chosen .entry)) i choice) ⌝ }
 {
     if choice == OUT {
         return true;
     }
-    table[8 * i + choice as usize] && !taken(chosen, i, choice)
+    if !table[8 * i + choice as usize] {
+        return false;
+    }
+    for j in 0..i {
+        if chosen[j] == choice {
+            return false;
+        }
+    }
+    true
 }
 
 // Goes on from the choices for the first i traders: each of the others stays out or gets a stand, in all ways that can serve.

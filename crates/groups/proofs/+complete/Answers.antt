@@ -11,27 +11,25 @@ use Rattle.groups.proofs.+complete.Needs.{else-all-brought·by·then-all-broug
 pub returns-then-some-differs : need.returns-then-some-differs
 returns-then-some-differs m c =
     found-end (c .args .n) (c .args .i) (c .if-i-n .taken) (c .args .table .now) (c .args .results .now) (c .args .chosen) (c .pre .sound)
-    (c .all-brought .ensures .found (c .if-all-brought .taken)) (c .some-differs .ensures .found (c .if-some-differs .taken))
+    (c .if-all-brought .ensures tt) (c .if-some-differs .ensures tt)
 
 pub returns-then-i-n : need.returns-then-i-n
 returns-then-i-n m c =
     elim (c .else-all-brought .came) [
       | else-all-brought·by·then-all-brought·else-some-differs w ↦
           all-the-same (c .args .n) (c .args .i) (c .if-i-n .taken) (c .args .table .now) (c .args .results .now) (c .args .chosen)
-          (w .some-differs .ensures .none (w .if-some-differs .left))
+          (w .if-some-differs .ensures tt)
       | else-all-brought·by·else-all-brought w ↦
           not-brought (c .args .n) (c .args .i) (c .if-i-n .taken) (c .args .table .now) (c .args .results .now) (c .args .chosen)
-          (c .all-brought .ensures .none (w .if-all-brought .left))
+          (w .if-all-brought .ensures tt)
     ]
 
 pub complete-requires : need.complete-requires
 complete-requires t c κs =
     let room : c .args .i < length (c .args .chosen) = omega arith in
-    let x = c .choice-in-choice .result in
     let sound = sound-next (c .args .n) (c .args .table .now) (c .args .chosen) (c .args .i) room (c .pre .sound) (c .choice-in-choice .result)
-    (λ stand.
-    let fine = c .may-have .ensures .allowed (c .if-may-have .taken) stand in
-    (choice-below (c .args .n) (c .loop-turn .turn) (c .choice-in-choice .result) (c .choice-in-choice .ensures) (c .loop-turn-test .taken) stand, fine .0, fine .1)) in
+    (choice-below (c .args .n) (c .loop-turn .turn) (c .choice-in-choice .result) (c .choice-in-choice .ensures) (c .loop-turn-test .taken))
+    (c .if-may-have .ensures tt) in
     search needs
 
 pub loop-turn-again : need.loop-turn-again
@@ -46,7 +44,7 @@ loop-turn-again m c =
     let more : c .args .i < c .args .n = omega arith in
     one-more n table got chosen i (c .loop-turn .turn) x (c .choice-in-choice .ensures) (c .loop-turn .inv) (elim (c .if-may-have .came) [
       | then-may-have·in-rest w ↦ w .in-rest .ensures tt
-      | else-may-have w ↦ let no = c .may-have .ensures .refused (w .if-may-have .left) in not-had n table got chosen i more room x (no .0) (no .1)
+      | else-may-have w ↦ not-had n table got chosen i more room x (w .if-may-have .ensures tt)
     ])
 
 pub returns-in-Some : need.returns-in-Some
