@@ -1,6 +1,6 @@
 -- The order of the search: where two shares part, and that only one of them comes first.
 use mathlib.Core.Path.{_≡_, refl, sym, ap, _∙_}
-use mathlib.Core.Bool.{Bool, true, false, not}
+use mathlib.Core.Bool.{Bool, false, not}
 use mathlib.Core.List.{List}
 use mathlib.Core.Logic.{_⊎_, inl, inr}
 use Prim.Native.Nat.{ℕ, suc, zero, _<_, _≤_}
@@ -17,7 +17,7 @@ use Rattle.groups.specs.Groups.{Answer-determined, Before, Earlier-at, First-s
 use Rattle.groups.specs.Sharings.{Agrees}
 use Rattle.groups.proofs.Prefixes.{turn-of}
 
--- where two shares do the same, neither is earlier
+-- where two shares have the same, neither is earlier
 pub not-earlier : (group : ℕ → Bool) (share : ℕ → ℕ) (group′ : ℕ → Bool) (share′ : ℕ → ℕ) (j : ℕ) →
     Same-at group share group′ share′ j → Earlier-at group share group′ share′ j → ⊥
 not-earlier group share group′ share′ j same earlier =
@@ -26,7 +26,7 @@ not-earlier group share group′ share′ j same earlier =
       | inr e ↦ let is : share j ≡ share′ j = same .1 (e .0) in let lower : share j < share′ j = e .2 in omega arith
     ]
 
--- two shares that do the same with a trader do it in the same turn, and the earlier one in an earlier turn
+-- what two shares have the same for a trader is tried in the same turn, and what is earlier in an earlier turn
 module _ (group : ℕ → Bool) (share : ℕ → ℕ) (group′ : ℕ → Bool) (share′ : ℕ → ℕ) (j : ℕ) where
   pub same-turn : Same-at group share group′ share′ j → turn-of group share j ≡ turn-of group′ share′ j
   same-turn same =
@@ -38,7 +38,7 @@ module _ (group : ℕ → Bool) (share : ℕ → ℕ) (group′ : ℕ → Bool) 
   pub earlier-turn : Earlier-at group share group′ share′ j → turn-of group share j < turn-of group′ share′ j
   earlier-turn earlier = elim earlier [ inl e ↦ rw (e .0, e .1) (omega arith) | inr e ↦ let lower = e .2 in rw (e .0, e .1) (omega arith) ]
 
--- a share that comes before another and does the same with the first i traders does the same with trader i, or is earlier by it
+-- a share that comes before another, and has the same for the first i traders, has the same for trader i or is earlier by it
 pub next-same-or-earlier : (n i : ℕ) (group : ℕ → Bool) (other : ℕ → ℕ) (share : List ℕ) →
     Agrees share i group other → Before n group other (in-group share) (stand-of share) →
     Same-at group other (in-group share) (stand-of share) i ⊎ Earlier-at group other (in-group share) (stand-of share) i
@@ -51,7 +51,7 @@ next-same-or-earlier n i group other share agrees b =
       ]
     ]
 
--- of two shares that do not have the same at place j, one is earlier by it
+-- of two shares that differ at place j, one is earlier by it
 one-earlier : (a b : List ℕ) (j : ℕ) → (stand-of a j ≡ stand-of b j → ⊥) →
     Earlier-at (in-group a) (stand-of a) (in-group b) (stand-of b) j ⊎ Earlier-at (in-group b) (stand-of b) (in-group a) (stand-of a) j
 one-earlier a b j ne =
@@ -72,15 +72,25 @@ one-earlier a b j ne =
     out-is : (xs : List ℕ) (j : ℕ) → in-group xs j ≡ false → stand-of xs j ≡ 65535
     out-is xs j e = eqb-true (getD xs j 0) 65535 (not-false _ e)
 
+parts-at : (n : ℕ) (a b : List ℕ) (m : ℕ) → m < n → ((j : ℕ) → j < m → stand-of a j ≡ stand-of b j) →
+    Earlier-at (in-group a) (stand-of a) (in-group b) (stand-of b) m → Before n (in-group a) (stand-of a) (in-group b) (stand-of b)
+parts-at n a b m h so-far e =
+    record {
+      first = m;
+      within = h;
+      same = λ j lt. (ap (λ x. not (eqb x 65535)) (so-far j lt), λ _. so-far j lt);
+      earlier = e;
+    }
+
 -- two first shares, trader by trader
 module _ (ls : Lists) (results a b : List ℕ) (fa : First-share ls results a) (fb : First-share ls results b) where
-  part-at : (m : ℕ) → m < length ls → ((j : ℕ) → j < m → stand-of a j ≡ stand-of b j) → stand-of a m ≡ stand-of b m
-  part-at m h so-far =
+  next-same : (m : ℕ) → m < length ls → ((j : ℕ) → j < m → stand-of a j ≡ stand-of b j) → stand-of a m ≡ stand-of b m
+  next-same m h so-far =
       elim (cases-eq (stand-of a m) (stand-of b m)) [
         | inl e ↦ e
         | inr ne ↦ absurd (elim (one-earlier a b m ne) [
-          | inl e ↦ fb .none-before (in-group a) (stand-of a) (fa .betters) (record { first = m; within = h; same = λ j lt. (ap (λ x. not (eqb x 65535)) (so-far j lt), λ _. so-far j lt); earlier = e })
-          | inr e ↦ fa .none-before (in-group b) (stand-of b) (fb .betters) (record { first = m; within = h; same = λ j lt. (ap (λ x. not (eqb x 65535)) (sym (so-far j lt)), λ _. sym (so-far j lt)); earlier = e })
+          | inl e ↦ fb .none-before (in-group a) (stand-of a) (fa .betters) (parts-at (length ls) a b m h so-far e)
+          | inr e ↦ fa .none-before (in-group b) (stand-of b) (fb .betters) (parts-at (length ls) b a m h (λ j lt. sym (so-far j lt)) e)
         ])
       ]
 
@@ -88,7 +98,7 @@ module _ (ls : Lists) (results a b : List ℕ) (fa : First-share ls results a) (
   same-before zero h j lt = absurd (omega arith)
   same-before (suc m) h j lt =
       elim (cases-eq j m) [
-        | inl e ↦ rw e (part-at m (omega arith) (same-before m (omega arith)))
+        | inl e ↦ rw e (next-same m (omega arith) (same-before m (omega arith)))
         | inr ne ↦ same-before m (omega arith) j (omega arith)
       ]
 

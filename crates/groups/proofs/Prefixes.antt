@@ -1,9 +1,9 @@
 -- How the choices for the first traders go on with one more, and why a way that is cut off could not serve.
-use mathlib.Core.Path.{_≡_, refl, sym, ap, _∙_}
-use mathlib.Core.Bool.{Bool, true, false, cond, not}
+use mathlib.Core.Path.{_≡_, sym, ap, _∙_}
+use mathlib.Core.Bool.{Bool, true, cond, not}
 use mathlib.Core.List.{List}
 use mathlib.Core.Logic.{_⊎_, inl, inr}
-use Prim.Native.Nat.{ℕ, _+_, _*_, _<_, _≤_}
+use Prim.Native.Nat.{ℕ, _+_, _<_, _≤_}
 use native.Mathlib.Omega.{arith}
 use borrow.Author.Count.{below-more}
 use lib.Dec.{eqb}
@@ -111,7 +111,7 @@ not-had n table got chosen i more room x refused group share agrees s =
     let at = refused .1 fine in
     not-twice n table got chosen i more room x (refused .0) group share agrees s (at .0) (at .1) (at .2) here
 
--- no turn of trader i serves
+-- no turn of trader i before this one serves
 abbrev pub Hopeless-until : ℕ → List Bool → (ℕ → ℕ) → List ℕ → ℕ → ℕ → Type 0
 Hopeless-until n table got chosen i turn = (u : ℕ) → u < turn → Hopeless n table got (set chosen i (choice-in u)) (i + 1)
 

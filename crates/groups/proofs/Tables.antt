@@ -1,8 +1,8 @@
 -- The table of what may be given, filled entry by entry, and what a search by it says of the lists.
-use mathlib.Core.Path.{_≡_, refl, sym, ap, _∙_}
+use mathlib.Core.Path.{_≡_, sym, ap, _∙_}
 use mathlib.Core.Bool.{Bool, true, false}
 use mathlib.Core.List.{List, []}
-use mathlib.Core.Logic.{_⊎_, inl, inr}
+use mathlib.Core.Logic.{inl, inr}
 use Prim.Native.Nat.{ℕ, _+_, _*_, _<_, _≤_}
 use native.Mathlib.Omega.{arith}
 use lib.Dec.{leb}
@@ -11,7 +11,7 @@ use Rattle.std.proofs.shelf.Lists.{getD-set-same, getD-set-other}
 use Rattle.std.proofs.shelf.Tests.{cases-eq, leb-true, le-leb}
 use Rattle.theory.specs.Promise.{rank, rank-in}
 use Rattle.theory.specs.Trade.{Lists}
-use Rattle.groups.specs.Groups.{Before, Betters, First-share, in-group, stand-of}
+use Rattle.groups.specs.Groups.{Betters, First-share, in-group, stand-of}
 use Rattle.groups.specs.Sharings.{may, Found, Right, Sharing}
 
 -- a stand that is no less dear by the trader's list

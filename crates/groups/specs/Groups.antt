@@ -50,24 +50,26 @@ unsearched bs results =
     (cond (ltb 8 (number-at bs 0)) (Some TooMany)
     (cond (ltb (length results) (number-at bs 0)) (Some (Refused (TooShort Results))) None))
 
--- one share does with trader j what another does: j is in neither group, or has the same stand by both
+-- two shares have the same for trader j: j is in neither group, or has the same stand by both
 abbrev pub Same-at : (ℕ → Bool) → (ℕ → ℕ) → (ℕ → Bool) → (ℕ → ℕ) → ℕ → Type 0
 Same-at group share group′ share′ j = (group j ≡ group′ j) × (group j ≡ true → share j ≡ share′ j)
 
--- one share is earlier than another by trader j: j is not in its group but in the other's, or is in both and has the lower stand by it
+-- a share is earlier than another by trader j: j is not in its group but in the other's, or is in both groups and has the lower
+-- stand by it
 abbrev pub Earlier-at : (ℕ → Bool) → (ℕ → ℕ) → (ℕ → Bool) → (ℕ → ℕ) → ℕ → Type 0
 Earlier-at group share group′ share′ j =
     ((group j ≡ false) × (group′ j ≡ true)) ⊎ ((group j ≡ true) × (group′ j ≡ true) × (share j < share′ j))
 
--- The order of the search: of two shares the one that is earlier by the first of the n traders with whom they do not do the same.
+-- The order of the search. A share comes before another if it is earlier by one of the n traders, and the two have the same for
+-- all traders before that one.
 pub record Before (n : ℕ) (group : ℕ → Bool) (share : ℕ → ℕ) (group′ : ℕ → Bool) (share′ : ℕ → ℕ) : Type 0 where
   pub first : ℕ
   pub within : first < n
   pub same : (j : ℕ) → j < first → Same-at group share group′ share′ j
   pub earlier : Earlier-at group share group′ share′ first
 
--- The first share, in the order of the search, by which a group betters the results. It has 8 places, and those past the last
--- trader say that nobody is in the group there. So there is only one.
+-- The first share, in the order of the search, that betters the results: no other that does comes before it. It has 8 places,
+-- and those past the last trader hold 65535. So there is only one.
 pub record First-share (ls : Lists) (results : List ℕ) (share : List ℕ) : Type 0 where
   pub betters : Betters ls (stand-of results) (in-group share) (stand-of share)
   pub none-before : (group : ℕ → Bool) (other : ℕ → ℕ) → Betters ls (stand-of results) group other →

@@ -135,7 +135,7 @@ fn may_have(table: &[bool], chosen: &[u16], i: usize, choice: u16) -> bool
     true
 }
 
-// Goes on from the choices for the first i traders: each of the others stays out or gets a stand, in all ways that can serve.
+// Goes on from the choices for the first i traders: each of the others stays out or gets a stand, and the first way that serves is handed on.
 fn complete(
     table: &[bool],
     results: &[u16],
@@ -166,7 +166,7 @@ fn complete(
     None
 }
 
-// Searches for a group that could do better among themselves than the results give.
+// Searches for the first group, in the order of the search, that could do better among themselves than the results give.
 pub fn bettering(bytes: &[u8], results: &[u16]) -> Result<Answer, Unsearched>
     ensures { λ r. ⌜ Outcome (now (bytes .entry)) (now (results .entry)) r ⌝ }
 {
@@ -276,6 +276,16 @@ mod tests {
         let share = [OUT, OUT, 3, 2, OUT, OUT, OUT, OUT];
         check_eq(
             bettering(&OUT_FIRST, &[1, 0, 2, 3]),
+            Ok(Answer::Bettered { share }),
+        )
+    }
+
+    // Two pairs could swap. The one that leaves the first traders out comes first.
+    #[test]
+    fn the_first_group_is_answered() -> Result<(), Fail> {
+        let share = [OUT, OUT, 3, 2, OUT, OUT, OUT, OUT];
+        check_eq(
+            bettering(&OUT_FIRST, &[0, 1, 2, 3]),
             Ok(Answer::Bettered { share }),
         )
     }

@@ -1,5 +1,5 @@
 use mathlib.Core.Path.{_≡_, _∙_, sym}
-use Prim.Native.Nat.{ℕ, _<_, _≤_}
+use Prim.Native.Nat.{ℕ}
 use lib.ListN.{getD-replicate, length, replicate}
 use native.Mathlib.Omega.{arith}
 use Rattle.lists.specs.Format.{lists-of}
