@@ -5,7 +5,6 @@ ghost use mathlib.Core.List.{_++_};
 ghost use mathlib.Core.Path.{_≡_};
 ghost use Rattle.std.specs.declared.option.Option.the-variants.{None};
 ghost use Rattle.lists.specs.Format.{fault, lists-of, number-at};
-ghost use Rattle.sheet.specs.Exchange.{put-entry};
 ghost use Rattle.sheet.specs.Sheet.{check-fault};
 ghost use Rattle.papers.specs.Paper.{paper-of};
 ghost use Rattle.agreement.specs.Agreement.{Agreed-by, agree-fault, difference, field-at, first-fault, on-paper, refused, sheet-fault, sheet-on, unless, unlike-fault};
@@ -15,23 +14,13 @@ use lists::bytes::number_at;
 use papers::writing::paper;
 use refusals::Refusal;
 use sheet::checking::check;
+use sheet::entries::write_entry;
 
 // The most that a sheet has: four bytes for each of 4,000 traders.
 const MOST_SHEET: usize = 16_000;
 
 // No paper has more than 8 + 2 * 4000 + 1 + 4 * 40 bytes.
 const MOST_PAPER: usize = 8_192;
-
-// Writes one entry of a sheet at byte `at`: the stand got and the round, low byte first.
-fn write_entry(sheet: &mut [u8], at: usize, stand: u16, round: u16)
-    requires { ⌜ at + 4 ≤ length (now sheet) ⌝ }
-    ensures { λ _. ⌜ now (sheet .exit) ≡ put-entry (now (sheet .entry)) at stand round ⌝ }
-{
-    sheet[at] = (stand % 256) as u8;
-    sheet[at + 1] = (stand / 256) as u8;
-    sheet[at + 2] = (round % 256) as u8;
-    sheet[at + 3] = (round / 256) as u8;
-}
 
 // Writes the sheet that the papers of n traders make.
 fn write_sheet(papers: &[u8], n: u16, sheet: &mut [u8])

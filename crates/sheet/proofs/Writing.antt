@@ -8,10 +8,11 @@ use Rattle.std.specs.Iters.{counting}
 use Rattle.std.specs.Joined.{joined}
 use Rattle.std.proofs.shelf.Lists.{joined-more, map-id}
 use Rattle.std.proofs.shelf.Counted.{map-counting-more, length-counting}
+use Rattle.std.proofs.shelf.Tests.{le-ltb}
 use Rattle.lists.proofs.Positions.{two-bytes}
 use native.Mathlib.Nat.{mul-suc}
 use Rattle.lists.specs.Format.{bytes-of}
-use Rattle.sheet.specs.Exchange.{entries, put-entry}
+use Rattle.sheet.specs.Exchange.{entries, entry-put, put-entry}
 
 -- one number more
 pub counting-more : (k : ℕ) → counting 0 (k + 1) ≡ counting 0 k ++ k ∷ []
@@ -40,6 +41,9 @@ four-bytes d p room =
     let low = two-bytes d p (omega arith) in
     let high = two-bytes d (p + 2) (omega arith) in
     low ∙ ap (λ xs. getD d p 0 ∷ getD d (p + 1) 0 ∷ xs) (high ∙ rw (second, fourth))
+
+pub put-there : (d : List ℕ) (p stand round : ℕ) → p + 4 ≤ length d → entry-put d p stand round ≡ put-entry d p stand round
+put-there d p stand round room = rw (le-ltb (length d) (p + 4) room)
 
 pub put-behind : (pre d : List ℕ) (p stand round : ℕ) → length pre ≡ p → p + 4 ≤ length d →
     put-entry (pre ++ drop p d) p stand round ≡ (pre ++ (bytes-of stand ++ bytes-of round)) ++ drop (p + 4) d

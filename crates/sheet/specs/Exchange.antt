@@ -75,6 +75,10 @@ abbrev pub put-entry : List ℕ → ℕ → ℕ → ℕ → List ℕ
 put-entry sheet p stand round =
     set (set (set (set sheet p (stand % 256)) (p + 1) (stand / 256)) (p + 2) (round % 256)) (p + 3) (round / 256)
 
+-- the same, where there is room for the entry
+abbrev pub entry-put : List ℕ → ℕ → ℕ → ℕ → List ℕ
+entry-put sheet p stand round = cond (ltb (length sheet) (p + 4)) sheet (put-entry sheet p stand round)
+
 -- the first k entries of the sheet of n traders, from the results and from the rounds in the third part of the work slice
 abbrev pub entries : List ℕ → List ℕ → ℕ → ℕ → List ℕ
 entries results work n k =

@@ -2,11 +2,12 @@
 ghost use Prim.Native.Nat.{_+_, _*_, _≤_};
 ghost use Rattle.lists.specs.Format.{fault, lists-of, number-at, unless};
 ghost use Rattle.rounds.specs.Run.{exchanged, results-left};
-ghost use Rattle.sheet.specs.Exchange.{Promised-by, entries, exchange-fault, put-entry, sheet-left, work-cleared};
+ghost use Rattle.sheet.specs.Exchange.{Promised-by, entries, exchange-fault, sheet-left, work-cleared};
 ghost use Rattle.std.specs.declared.option.Option.the-variants.{None};
 ghost use lib.ListN.{drop, length, replicate};
 ghost use mathlib.Core.List.{_++_};
 ghost use mathlib.Core.Path.{_≡_};
+use crate::entries::write_entry;
 use lists::reading::read;
 use refusals::Lent;
 use refusals::Refusal;
@@ -71,17 +72,6 @@ fn clear(work: &mut [u16], count: usize)
     ensures { λ _. ⌜ now (work .exit) ≡ replicate count 0 ++ drop count (now (work .entry)) ⌝ }
 {
     work[0..count].fill(0);
-}
-
-// Writes one entry of the sheet at byte `at`: the stand got and the round, low byte first.
-fn write_entry(sheet: &mut [u8], at: usize, stand: u16, round: u16)
-    requires { ⌜ at + 4 ≤ length (now sheet) ⌝ }
-    ensures { λ _. ⌜ now (sheet .exit) ≡ put-entry (now (sheet .entry)) at stand round ⌝ }
-{
-    sheet[at] = (stand % 256) as u8;
-    sheet[at + 1] = (stand / 256) as u8;
-    sheet[at + 2] = (round % 256) as u8;
-    sheet[at + 3] = (round / 256) as u8;
 }
 
 // Writes the sheet of n traders: the results, and the rounds, which stand in the third part of the work slice.

@@ -1,8 +1,10 @@
+use Prim.Native.Nat.{_*_}
 use mathlib.Core.Path.{_≡_, refl, ap, _∙_}
 use native.Mathlib.Omega.{arith}
 use lib.ListN.{length}
 use Rattle.lists.specs.Format.{number-at}
 use Rattle.papers.specs.Paper.{round-on, stand-on}
+use Rattle.sheet.proofs.Writing.{put-there}
 use Rattle.agreement.specs.Agreement.{nth-paper, paper-at, sheet-on}
 use Rattle.agreement.proofs.Places.{next-paper, paper-within}
 use Rattle.agreement.proofs.Sheets.{entry-more}
@@ -20,7 +22,7 @@ loop-trader-again c =
     c .paper-in-paper .ensures ∙ ap (paper-at ps) (c .loop-trader .inv .1) in
     let size = ap length (c .paper-in-paper .ensures) in
     let inside = paper-within ps (c .loop-trader .from) (c .loop-trader .inv .2) in (
-      c .write-entry .ensures ∙ entry-more ps (c .args .sheet .now) (c .loop-trader .sheet) i (c .number-at .result) (c .number-at-in-loop-trader .result)
+      c .write-entry .ensures ∙ put-there (c .loop-trader .sheet) (4 * i) (c .number-at .result) (c .number-at-in-loop-trader .result) (omega arith) ∙ entry-more ps (c .args .sheet .now) (c .loop-trader .sheet) i (c .number-at .result) (c .number-at-in-loop-trader .result)
           (c .number-at .ensures ∙ ap stand-on paper) (c .number-at-in-loop-trader .ensures ∙ ap round-on paper) (c .loop-trader .inv .0) (omega arith),
       next-paper ps i (c .loop-trader .from) (length (c .paper-in-paper .result .now)) (c .loop-trader .inv .1) size,
       omega arith,
