@@ -57,18 +57,55 @@ pub fn check_papers(lists: &[u8], papers: &[u8]) -> Result<u16, Fault>
 #[cfg(test)]
 mod tests {
     use super::*;
-    use std::alloc::Global;
     use std::test::*;
 
     // the lists 1 / 2 / 1 0
     const LISTS: [u8; 13] = [3, 0, 1, 1, 0, 1, 2, 0, 2, 1, 0, 0, 0];
 
     // trader 0 keeps its stand in round 1, and traders 1 and 2 exchange theirs in round 0
-    const FIRST: [u8; 15] = [0, 0, 1, 0, 0, 0, 1, 0, 0, 0, 1, 1, 0, 0, 0];
-
-    const SECOND: [u8; 13] = [1, 0, 0, 0, 2, 0, 2, 0, 1, 0, 2, 0, 0];
-
-    const THIRD: [u8; 13] = [2, 0, 0, 0, 1, 0, 2, 0, 2, 0, 1, 0, 0];
+    const PAPERS: [u8; 41] = [
+        0,
+        0,
+        1,
+        0,
+        0,
+        0,
+        1,
+        0,
+        0,
+        0,
+        1,
+        1,
+        0,
+        0,
+        0,
+        1,
+        0,
+        0,
+        0,
+        2,
+        0,
+        2,
+        0,
+        1,
+        0,
+        2,
+        0,
+        0,
+        2,
+        0,
+        0,
+        0,
+        1,
+        0,
+        2,
+        0,
+        2,
+        0,
+        1,
+        0,
+        0,
+    ];
 
     // the number and the place of a refusal, after the trader whose paper it is or 9; 0, 0 and the number of traders
     fn outcome(lists: &[u8], papers: &[u8]) -> (u16, u8, usize) {
@@ -79,43 +116,35 @@ mod tests {
         }
     }
 
-    // the outcome for three papers, one after another
-    fn with(heap: Global, a: &[u8], b: &[u8], c: &[u8]) -> Result<(u16, u8, usize), Fail> {
-        let mut papers = Vec::new(heap);
-        papers.extend_from_slice(a)?;
-        papers.extend_from_slice(b)?;
-        papers.extend_from_slice(c)?;
-        Ok(outcome(&LISTS, papers.as_slice()))
+    // the outcome for the papers of the year with another byte at two places
+    fn changed(at: usize, byte: u8, also: usize, other: u8) -> (u16, u8, usize) {
+        let mut papers = PAPERS;
+        if at < 41 && also < 41 {
+            papers[at] = byte;
+            papers[also] = other;
+        }
+        outcome(&LISTS, &papers)
     }
 
     #[test]
-    fn papers_in_their_places(rt: LibcRuntime) -> Result<(), Fail> {
-        check_eq(with(rt.alloc(), &FIRST, &SECOND, &THIRD)?, (0, 0, 3))?;
-        // another order: trader 1 lists the stand of trader 2, whose paper stands in its place
-        check_eq(with(rt.alloc(), &FIRST, &THIRD, &SECOND)?, (1, 4, 1))?;
+    fn papers_in_their_places() -> Result<(), Fail> {
+        check_eq(outcome(&LISTS, &PAPERS), (0, 0, 3))?;
+        // the last paper too short
+        check_eq(outcome(&LISTS, &PAPERS[..40]), (2, 10, 6))?;
         // somebody else's paper, which passes with the list
         let other = [1, 0, 0, 0, 1, 0, 1, 0, 1, 0, 0];
         check_eq(outcome(&[2, 0, 0, 0], &other), (0, 10, 0))?;
-        // the last paper too short, and a byte after it
-        check_eq(with(rt.alloc(), &FIRST, &SECOND, &THIRD[..12])?, (2, 10, 6))?;
         let long = [0, 0, 0, 0, 0, 0, 1, 0, 0, 0, 0, 7];
         check_eq(outcome(&[1, 0, 0], &long), (9, 1, 11))?;
-        check_eq(outcome(&[1], &FIRST), (9, 1, 1))
+        check_eq(outcome(&[1], &PAPERS), (9, 1, 1))
     }
 
     // papers that each pass and contradict each other
     #[test]
-    fn papers_that_disagree(rt: LibcRuntime) -> Result<(), Fail> {
+    fn papers_that_disagree() -> Result<(), Fail> {
         // trader 1 went out in round 2 by its own paper, and in round 0 by the others
-        let late = [1, 0, 2, 0, 2, 0, 2, 0, 1, 0, 2, 0, 0];
-        check_eq(with(rt.alloc(), &FIRST, &late, &THIRD)?, (9, 8, 0))?;
-        // traders 1 and 2 went out in round 1 by their own papers, and in round 0 by that of trader 0
-        let kept = [0, 0, 2, 0, 0, 0, 1, 0, 0, 0, 1, 1, 0, 0, 0];
-        let second = [1, 0, 1, 0, 2, 0, 2, 0, 1, 0, 2, 0, 0];
-        let third = [2, 0, 1, 0, 1, 0, 2, 0, 2, 0, 1, 0, 0];
-        check_eq(with(rt.alloc(), &kept, &second, &third)?, (0, 10, 7))?;
-        // trader 0, who keeps its stand, is on the ring of trader 1
-        let ring = [1, 0, 0, 0, 2, 0, 3, 0, 1, 0, 2, 0, 0, 0, 0];
-        check_eq(with(rt.alloc(), &FIRST, &ring, &THIRD)?, (1, 10, 3))
+        check_eq(changed(17, 2, 17, 2), (9, 8, 0))?;
+        // trader 0 went out in round 2 by its own paper, and trader 1 in round 1 by that of trader 0
+        check_eq(changed(2, 2, 13, 1), (0, 10, 7))
     }
 }
