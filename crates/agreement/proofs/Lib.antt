@@ -4,3 +4,5 @@ pub mod Sheets
 pub mod Likeness
 pub mod Written
 pub mod Agreed
+pub mod Rows
+pub mod Accepts

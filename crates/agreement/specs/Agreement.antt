@@ -13,8 +13,8 @@ use Rattle.std.specs.declared.result.Result.the-variants.{Ok, Err}
 use Rattle.refusals.specs.declared.Refusal.{Refusal}
 use Rattle.refusals.specs.declared.Refusal.the-variants.{PaperFault}
 use Rattle.lists.specs.Format.{bytes-of, end-fault, fault, lists-of, number-at, or-else, start}
-use Rattle.theory.specs.Trade.{result}
-use Rattle.sheet.specs.Sheet.{Valid, check-fault}
+use Rattle.theory.specs.Trade.{Lists, result}
+use Rattle.sheet.specs.Sheet.{Valid, check-fault, sheet-of}
 use Rattle.papers.specs.Faults.{paper-check-fault}
 use Rattle.papers.specs.Paper.{count-on, count-place, own-on, paper-of, round-on, stand-on}
 use Rattle.agreement.specs.declared.Fault.{Fault}
@@ -137,3 +137,26 @@ pub record Agreed (bs ps : List ℕ) (n : ℕ) : Type 0 where
 abbrev pub Agreed-by : Result ℕ Fault → List ℕ → List ℕ → Type 0
 Agreed-by (Err f) bs ps = Unit {0}
 Agreed-by (Ok n) bs ps = Agreed bs ps n
+
+-- ---- the papers of a sheet are accepted
+
+-- the papers of k traders from trader i on, one after another
+unfoldable pub papers-from : Lists → List ℕ → ℕ → ℕ → List ℕ
+papers-from ls sheet i zero = []
+papers-from ls sheet i (suc k) = paper-of ls sheet i ++ papers-from ls sheet (suc i) k
+
+-- the papers of all traders, by the lists and a sheet
+abbrev pub all-papers : Lists → List ℕ → List ℕ
+all-papers ls sheet = papers-from ls sheet 0 (length ls)
+
+-- Of every sheet that the checker accepts, the papers of all traders are accepted together.
+unfoldable pub Papers-of-a-sheet-agree : Type 0
+Papers-of-a-sheet-agree =
+    (bs sheet : List ℕ) → ((k : ℕ) → k < length bs → getD bs k 0 < 256) → ((k : ℕ) → k < length sheet → getD sheet k 0 < 256) →
+    check-fault bs sheet ≡ None → papers-fault bs (all-papers (lists-of bs) sheet) ≡ None
+
+-- So are the papers of the exchange, for all accepted lists.
+unfoldable pub Papers-of-the-exchange-agree : Type 0
+Papers-of-the-exchange-agree =
+    (bs : List ℕ) → ((k : ℕ) → k < length bs → getD bs k 0 < 256) → fault bs ≡ None →
+    papers-fault bs (all-papers (lists-of bs) (sheet-of (lists-of bs))) ≡ None

@@ -4,6 +4,7 @@ ghost use Rattle.lists.specs.Format.{end-fault, fault, number-at};
 ghost use Rattle.agreement.specs.Agreement.{Agreed-by, papers-fault, refused, unless};
 
 mod each;
+pub mod theorems;
 mod together;
 
 use each::check_each;
