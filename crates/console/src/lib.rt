@@ -1,12 +1,12 @@
 // What the programs share: bounded input, how a refusal is told, and how a program ends that did not do its work.
 ghost use Prim.Native.Nat.{_≤_};
 ghost use Rattle.console.specs.Text.{refusal-text};
-ghost use Rattle.lists.specs.Refusals.{number, place};
+ghost use Rattle.refusals.specs.Refusals.{number, place};
 ghost use Rattle.std.specs.Of.String.{string-bytes};
 ghost use Rattle.std.specs.Of.Vec.{vec-len};
 ghost use Rattle.std.specs.Vec.{made};
 ghost use mathlib.Core.Path.{_≡_};
-use lists::refusals::Refusal;
+use refusals::Refusal;
 use std::alloc::AllocError;
 use std::alloc::Global;
 use std::fs;

@@ -1,4 +1,6 @@
 pub mod Prefixes
+pub mod Orders
+pub mod Firsts
 pub mod Ranks
 pub mod Tables
 pub mod Unbettered

@@ -1,13 +1,13 @@
 -- What the search for a group goes by: a table of what may be given, and choices made for the first traders.
 use mathlib.Core.Path.{_≡_}
-use mathlib.Core.Bool.{Bool, true, false}
+use mathlib.Core.Bool.{Bool, true, false, cond}
 use mathlib.Core.List.{List}
-use Prim.Native.Nat.{ℕ, _+_, _*_, _<_}
-use lib.Dec.{leb}
-use lib.ListN.{length, getD}
+use Prim.Native.Nat.{ℕ, _+_, _-_, _*_, _≤_, _<_}
+use lib.Dec.{eqb, leb}
+use lib.ListN.{getD}
 use Rattle.theory.specs.Promise.{rank}
 use Rattle.theory.specs.Trade.{Lists}
-use Rattle.groups.specs.Groups.{in-group, stand-of}
+use Rattle.groups.specs.Groups.{Before, Same-at, in-group, stand-of}
 
 -- stand t may be given to trader i
 abbrev pub may : List Bool → ℕ → ℕ → Bool
@@ -25,6 +25,23 @@ pub record Sharing (n : ℕ) (table : List Bool) (got : ℕ → ℕ) (group : �
   pub fine : (i : ℕ) → i < n → group i ≡ true → may table i (share i) ≡ true
   pub another : (i : ℕ) × (i < n) × (group i ≡ true) × (share i ≡ got i → ⊥)
 
+-- what is tried for a trader, turn by turn: to stay out of the group, and then the stands from 0 on
+abbrev pub choice-in : ℕ → ℕ
+choice-in turn = cond (eqb turn 0) 65535 (turn - 1)
+
+-- none of the first i traders has the stand by the choices
+abbrev pub Free : List ℕ → ℕ → ℕ → Type 0
+Free chosen i stand = (j : ℕ) → j < i → stand-of chosen j ≡ stand → ⊥
+
+-- trader i may stay out, or have a stand that may be given and is free
+abbrev pub May-have : List Bool → List ℕ → ℕ → ℕ → Type 0
+May-have table chosen i choice = (choice ≡ 65535 → ⊥) → (may table i choice ≡ true) × Free chosen i choice
+
+-- the choice is a stand that may not be given, or that one of the first i traders has
+abbrev pub May-not-have : List Bool → List ℕ → ℕ → ℕ → Type 0
+May-not-have table chosen i choice =
+    (choice ≡ 65535 → ⊥) × (may table i choice ≡ true → (j : ℕ) × (j < i) × (stand-of chosen j ≡ choice))
+
 -- the choices for the first i traders break nothing
 pub record Sound (n : ℕ) (table : List Bool) (chosen : List ℕ) (i : ℕ) : Type 0 where
   pub below : (j : ℕ) → j < i → in-group chosen j ≡ true → stand-of chosen j < n
@@ -33,13 +50,20 @@ pub record Sound (n : ℕ) (table : List Bool) (chosen : List ℕ) (i : ℕ) : T
 
 -- a group and its share go by the choices for the first i traders
 abbrev pub Agrees : List ℕ → ℕ → (ℕ → Bool) → (ℕ → ℕ) → Type 0
-Agrees chosen i group share =
-    (j : ℕ) → j < i → (group j ≡ in-group chosen j) × (group j ≡ true → share j ≡ stand-of chosen j)
+Agrees chosen i group share = (j : ℕ) → j < i → Same-at group share (in-group chosen) (stand-of chosen) j
 
 -- no group that goes by the choices for the first i traders could do better
 abbrev pub Hopeless : ℕ → List Bool → (ℕ → ℕ) → List ℕ → ℕ → Type 0
 Hopeless n table got chosen i =
     (group : ℕ → Bool) (share : ℕ → ℕ) → Agrees chosen i group share → Sharing n table got group share → ⊥
+
+-- a share that goes by the choices for the first i traders, and of all those the first by which a group could do better
+pub record Found (n : ℕ) (table : List Bool) (got : ℕ → ℕ) (chosen : List ℕ) (i : ℕ) (share : List ℕ) : Type 0 where
+  pub serves : Sharing n table got (in-group share) (stand-of share)
+  pub none-before : (group : ℕ → Bool) (other : ℕ → ℕ) → Agrees chosen i group other → Sharing n table got group other →
+      Before n group other (in-group share) (stand-of share) → ⊥
+  pub kept : (j : ℕ) → j < i → stand-of share j ≡ stand-of chosen j
+  pub past : (j : ℕ) → n ≤ j → stand-of share j ≡ stand-of chosen j
 
 -- every stand chosen is one that the group brought
 abbrev pub Brought : ℕ → List ℕ → Type 0

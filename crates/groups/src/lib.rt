@@ -7,19 +7,20 @@ ghost use mathlib.Core.Bool.{true, false};
 ghost use mathlib.Core.List.{[]};
 ghost use mathlib.Core.Path.{_≡_};
 ghost use Rattle.std.specs.Options.{Cases as BySome};
+ghost use Rattle.std.specs.Orderings.{When};
 ghost use Rattle.std.specs.declared.option.Option.the-variants.{None};
 ghost use Rattle.lists.specs.Format.{fault, lists-of, number-at, numbers};
 ghost use Rattle.theory.specs.Promise.{rank-in};
-ghost use Rattle.groups.specs.Groups.{Outcome, Right-answer, in-group, stand-of};
-ghost use Rattle.groups.specs.Sharings.{Brought, Differs, Hopeless, Right, Same, Sharing, Sound, Unbrought};
+ghost use Rattle.groups.specs.Groups.{Answer-determined, Outcome, Outcome-determined, Right-answer, in-group, stand-of};
+ghost use Rattle.groups.specs.Sharings.{Brought, Differs, Found, Hopeless, May-have, May-not-have, Right, Same, Sound, Unbrought, choice-in};
 use lists::bytes::number_at;
 use lists::reading::list_at;
 use lists::reading::read;
 use lists::reading::start_of;
-use lists::refusals::Lent;
-use lists::refusals::Refusal;
-use lists::refusals::RefusalDebug;
-use lists::refusals::RefusalPartialEq;
+use refusals::Lent;
+use refusals::Refusal;
+use refusals::RefusalDebug;
+use refusals::RefusalPartialEq;
 
 // the most traders that a search is made for
 const MOST: usize = 8;
@@ -77,26 +78,11 @@ fn table_of(bytes: &[u8], results: &[u16], n: u16) -> [bool; 64]
     table
 }
 
-// A stand was chosen for one of the first i traders.
-fn taken(chosen: &[u16], i: usize, stand: u16) -> bool
-    requires { ⌜ i ≤ length (now chosen) ⌝ }
-    ensures found { λ r. ⌜ (r ≡ true → ((j : ℕ) × (j < i) × (stand-of (now (chosen .entry)) j ≡ stand))) ⌝ }
-    ensures none { λ r. ⌜ (r ≡ false → (j : ℕ) → j < i → stand-of (now (chosen .entry)) j ≡ stand → ⊥) ⌝ }
-{
-    for j in 0..i {
-        if chosen[j] == stand {
-            return true;
-        }
-    }
-    false
-}
-
 // Every stand chosen is one that the group brought.
 fn all_brought(chosen: &[u16], n: usize) -> bool
     requires { ⌜ n ≤ length (now chosen) ⌝ }
     requires below { ⌜ ((j : ℕ) → j < n → in-group (now chosen) j ≡ true → stand-of (now chosen) j < n) ⌝ }
-    ensures found { λ r. ⌜ (r ≡ true → Brought n (now (chosen .entry))) ⌝ }
-    ensures none { λ r. ⌜ (r ≡ false → Unbrought n (now (chosen .entry))) ⌝ }
+    ensures { λ r. ⌜ When r (Brought n (now (chosen .entry))) (Unbrought n (now (chosen .entry))) ⌝ }
 {
     for j in 0..n {
         let stand = chosen[j];
@@ -110,18 +96,46 @@ fn all_brought(chosen: &[u16], n: usize) -> bool
 // Somebody in the group has another stand than the one got.
 fn some_differs(chosen: &[u16], results: &[u16], n: usize) -> bool
     requires { ⌜ n ≤ length (now chosen) ⌝ ∗ ⌜ n ≤ length (now results) ⌝ }
-    ensures found { λ r. ⌜ (r ≡ true → Differs n (now (results .entry)) (now (chosen .entry))) ⌝ }
-    ensures none { λ r. ⌜ (r ≡ false → Same n (now (results .entry)) (now (chosen .entry))) ⌝ }
+    ensures { λ r. ⌜ When r (Differs n (now (results .entry)) (now (chosen .entry))) (Same n (now (results .entry)) (now (chosen .entry))) ⌝ }
 {
     for j in 0..n {
-        if chosen[j] != OUT && chosen[j] != results[j] {
+        let stand = chosen[j];
+        if stand != OUT && stand != results[j] {
             return true;
         }
     }
     false
 }
 
-// Goes on from the choices for the first i traders: each of the others stays out or gets a stand, in all ways that can serve.
+// What is tried for a trader, turn by turn: to stay out of the group, and then the stands from 0 on.
+fn choice_in(turn: usize) -> u16
+    requires { ⌜ turn ≤ 8 ⌝ }
+    ensures { λ r. ⌜ r ≡ choice-in turn ⌝ }
+{
+    if turn == 0 { OUT } else { turn as u16 - 1 }
+}
+
+// Trader i may stay out, or have a stand that is dear enough and that was not chosen before.
+fn may_have(table: &[bool], chosen: &[u16], i: usize, choice: u16) -> bool
+    requires within { ⌜ i < 8 ⌝ ∗ ⌜ i ≤ length (now chosen) ⌝ ∗ ⌜ length (now table) ≡ 64 ⌝ }
+    requires stand { ⌜ ((choice ≡ 65535 → ⊥) → choice < 8) ⌝ }
+    ensures { λ r. ⌜ When r (May-have (now (table .entry)) (now (chosen .entry)) i choice) (May-not-have (now (table .entry)) (now (chosen .entry)) i choice) ⌝ }
+{
+    if choice == OUT {
+        return true;
+    }
+    if !table[8 * i + choice as usize] {
+        return false;
+    }
+    for j in 0..i {
+        if chosen[j] == choice {
+            return false;
+        }
+    }
+    true
+}
+
+// Goes on from the choices for the first i traders: each of the others stays out or gets a stand, and the first way that serves is handed on.
 fn complete(
     table: &[bool],
     results: &[u16],
@@ -131,7 +145,7 @@ fn complete(
 ) -> Option<[u16; 8]>
     requires few { ⌜ i ≤ n ⌝ ∗ ⌜ n ≤ 8 ⌝ ∗ ⌜ n ≤ length (now results) ⌝ ∗ ⌜ length (now table) ≡ 64 ⌝ }
     requires sound { ⌜ Sound n (now table) chosen i ⌝ }
-    ensures { λ r. ⌜ BySome r (Hopeless n (now (table .entry)) (stand-of (now (results .entry))) chosen i) (λ share. Sharing n (now (table .entry)) (stand-of (now (results .entry))) (in-group share) (stand-of share)) ⌝ }
+    ensures { λ r. ⌜ BySome r (Hopeless n (now (table .entry)) (stand-of (now (results .entry))) chosen i) (λ share. Found n (now (table .entry)) (stand-of (now (results .entry))) chosen i share) ⌝ }
 {
     if i == n {
         if all_brought(&chosen, n) && some_differs(&chosen, results, n) {
@@ -139,16 +153,12 @@ fn complete(
         }
         return None;
     }
-    let mut stays_out = chosen;
-    stays_out[i] = OUT;
-    if let Some(share) = complete(table, results, n, i + 1, stays_out) {
-        return Some(share);
-    }
-    for stand in 0..n {
-        if table[8 * i + stand] && !taken(&chosen, i, stand as u16) {
-            let mut gets = chosen;
-            gets[i] = stand as u16;
-            if let Some(share) = complete(table, results, n, i + 1, gets) {
+    for turn in 0..n + 1 {
+        let choice = choice_in(turn);
+        if may_have(table, &chosen, i, choice) {
+            let mut next = chosen;
+            next[i] = choice;
+            if let Some(share) = complete(table, results, n, i + 1, next) {
                 return Some(share);
             }
         }
@@ -156,7 +166,7 @@ fn complete(
     None
 }
 
-// Searches for a group that could do better among themselves than the results give.
+// Searches for the first group, in the order of the search, that could do better among themselves than the results give.
 pub fn bettering(bytes: &[u8], results: &[u16]) -> Result<Answer, Unsearched>
     ensures { λ r. ⌜ Outcome (now (bytes .entry)) (now (results .entry)) r ⌝ }
 {
@@ -187,6 +197,20 @@ fn search_year(bytes: &[u8], results: &[u16], n: u16) -> Answer
         Some(share) => Answer::Bettered { share },
         None => Answer::Unbettered,
     }
+}
+
+// Two answers that are both right for the same lists and results are equal.
+pub fn answer_determined() -> u8
+    ensures { λ _. ⌜ Answer-determined ⌝ }
+{
+    0
+}
+
+// For all bytes and results there is one outcome.
+pub fn outcome_determined() -> u8
+    ensures { λ _. ⌜ Outcome-determined ⌝ }
+{
+    0
 }
 
 #[cfg(test)]
@@ -252,6 +276,16 @@ mod tests {
         let share = [OUT, OUT, 3, 2, OUT, OUT, OUT, OUT];
         check_eq(
             bettering(&OUT_FIRST, &[1, 0, 2, 3]),
+            Ok(Answer::Bettered { share }),
+        )
+    }
+
+    // Two pairs could swap. The one that leaves the first traders out comes first.
+    #[test]
+    fn the_first_group_is_answered() -> Result<(), Fail> {
+        let share = [OUT, OUT, 3, 2, OUT, OUT, OUT, OUT];
+        check_eq(
+            bettering(&OUT_FIRST, &[0, 1, 2, 3]),
             Ok(Answer::Bettered { share }),
         )
     }

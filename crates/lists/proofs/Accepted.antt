@@ -11,7 +11,7 @@ use Rattle.std.proofs.shelf.Lists.{getD-default}
 use Rattle.std.proofs.shelf.Tests.{and-parts, and-from, le-ltb, lt-ltb, ltb-true, ltb-false, cases-lt}
 use Rattle.std.specs.declared.option.Option.{Option}
 use Rattle.std.specs.declared.option.Option.the-variants.{Some, None}
-use Rattle.lists.specs.declared.refusals.Refusal.{Refusal}
+use Rattle.refusals.specs.declared.Refusal.{Refusal}
 use Rattle.theory.specs.Promise.{Distinct, Proper}
 use Rattle.lists.proofs.Faults.{may-list}
 use Rattle.lists.specs.Format.{number-at, numbers, list-bytes, next-start, start, lists-of, stands-fault, count-fault, list-fault, or-else, lists-fault, fault, Begins, Encodable}

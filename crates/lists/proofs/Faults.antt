@@ -13,8 +13,8 @@ use Rattle.std.specs.declared.result.Result.{Result}
 use Rattle.std.specs.declared.result.Result.the-variants.{Ok, Err}
 use Rattle.std.specs.declared.option.Option.{Option}
 use Rattle.std.specs.declared.option.Option.the-variants.{Some, None}
-use Rattle.lists.specs.declared.refusals.Refusal.{Refusal}
-use Rattle.lists.specs.declared.refusals.Refusal.the-variants.{WrongLength, WrongCount, LongList, WrongStand}
+use Rattle.refusals.specs.declared.Refusal.{Refusal}
+use Rattle.refusals.specs.declared.Refusal.the-variants.{WrongLength, WrongCount, LongList, WrongStand}
 use Rattle.lists.specs.Format.{number-at, next-start, member, count-fault, length-fault, end-fault, stand-fault, stands-fault, list-fault, or-else, lists-fault, fault, unless}
 
 -- stand t may be listed by trader own after the stands `before`

@@ -2,4 +2,3 @@
 pub mod bytes;
 pub mod laws;
 pub mod reading;
-pub mod refusals;

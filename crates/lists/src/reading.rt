@@ -11,7 +11,7 @@ ghost use Rattle.std.specs.Results.{Cases as ByOk};
 ghost use Rattle.lists.specs.Format.{count-fault, end-fault, fault, length-fault, list-bytes, lists-fault, next-start, number-at, own-list-fault, stand-fault, stands-fault, start, unless};
 use crate::bytes::byte_at;
 use crate::bytes::number_in;
-use crate::refusals::Refusal;
+use refusals::Refusal;
 
 const MOST_TRADERS: u16 = 4000;
 

@@ -11,7 +11,7 @@ use Rattle.std.proofs.shelf.Lists.{append-nil, drop-more}
 use Rattle.std.proofs.shelf.Tests.{and-from, and-parts, cases-bool, cases-eq, eq-eqb, eqb-true, le-ltb, lt-ltb, ltb-true, ne-eqb}
 use Rattle.std.specs.declared.option.Option.{Option}
 use Rattle.std.specs.declared.option.Option.the-variants.{None}
-use Rattle.lists.specs.declared.refusals.Refusal.{Refusal}
+use Rattle.refusals.specs.declared.Refusal.{Refusal}
 use Rattle.theory.specs.Certificate.{steps}
 use Rattle.lists.specs.Format as format
 use Rattle.lists.specs.Format.{encode-stands, list-bytes, lists-of, member, number-at, numbers, or-else, own-list-fault, start}

@@ -10,7 +10,7 @@ use Rattle.std.specs.declared.option.Option.{Option}
 use Rattle.std.specs.declared.option.Option.the-variants.{Some, None}
 use Rattle.std.specs.Options.{orOther}
 use Rattle.std.proofs.shelf.Lists.{drop-more, drop-all}
-use Rattle.lists.specs.declared.refusals.Refusal.{Refusal}
+use Rattle.refusals.specs.declared.Refusal.{Refusal}
 use Rattle.lists.specs.Format.{member, or-else}
 use Rattle.papers.specs.Paper.{ring-on}
 use Rattle.papers.specs.Faults.{member-fault, ring-fault, holder-fault, gone-fault, end-fault, dearer-fault}

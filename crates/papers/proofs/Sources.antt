@@ -8,9 +8,9 @@ use Rattle.std.proofs.shelf.Tests.{lt-ltb, le-ltb}
 use Rattle.std.specs.declared.option.Option.the-variants.{Some, None}
 use Rattle.std.specs.declared.result.Result.{Result}
 use Rattle.std.specs.declared.result.Result.the-variants.{Ok, Err}
-use Rattle.lists.specs.declared.refusals.Lent.the-variants.{Results}
-use Rattle.lists.specs.declared.refusals.Refusal.{Refusal}
-use Rattle.lists.specs.declared.refusals.Refusal.the-variants.{TooShort}
+use Rattle.refusals.specs.declared.Lent.the-variants.{Results}
+use Rattle.refusals.specs.declared.Refusal.{Refusal}
+use Rattle.refusals.specs.declared.Refusal.the-variants.{TooShort}
 use Rattle.lists.specs.Format.{Begins, fault, list-bytes, lists-of, number-at, numbers, start, unless}
 use Rattle.lists.proofs.Accepted.{begins-list, no-fault-both}
 use Rattle.lists.proofs.Positions.{count-of-lists}

@@ -8,8 +8,8 @@ use lib.Dec.{eqb, ltb}
 use lib.ListN.{length}
 use Rattle.std.specs.declared.option.Option.{Option}
 use Rattle.std.specs.declared.option.Option.the-variants.{Some, None}
-use Rattle.lists.specs.declared.refusals.Refusal.{Refusal}
-use Rattle.lists.specs.declared.refusals.Refusal.the-variants.{PaperFault}
+use Rattle.refusals.specs.declared.Refusal.{Refusal}
+use Rattle.refusals.specs.declared.Refusal.the-variants.{PaperFault}
 use Rattle.lists.specs.Format.{list-bytes, member, numbers, or-else, own-list-fault}
 use Rattle.papers.specs.Paper.{count-on, count-place, dearer-than, gone-on, holder-on, own-on, ring-length, ring-on, round-on, stand-on}
 

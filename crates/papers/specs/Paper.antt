@@ -9,9 +9,9 @@ use Rattle.std.specs.declared.option.Option.{Option}
 use Rattle.std.specs.declared.option.Option.the-variants.{Some, None}
 use Rattle.std.specs.declared.result.Result.{Result}
 use Rattle.std.specs.declared.result.Result.the-variants.{Ok, Err}
-use Rattle.lists.specs.declared.refusals.Lent.the-variants.{Results}
-use Rattle.lists.specs.declared.refusals.Refusal.{Refusal}
-use Rattle.lists.specs.declared.refusals.Refusal.the-variants.{PaperFault, TooShort}
+use Rattle.refusals.specs.declared.Lent.the-variants.{Results}
+use Rattle.refusals.specs.declared.Refusal.{Refusal}
+use Rattle.refusals.specs.declared.Refusal.the-variants.{PaperFault, TooShort}
 use Rattle.lists.specs.Format.{bytes-of, encode-stands, lists-of, number-at, or-else}
 use Rattle.theory.specs.Trade.{Lists}
 use Rattle.sheet.specs.Sheet.{check-fault, round-in, stand-in}

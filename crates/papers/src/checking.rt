@@ -12,7 +12,7 @@ use lists::bytes::byte_at;
 use lists::bytes::number_at;
 use lists::bytes::number_in;
 use lists::reading::read_list;
-use lists::refusals::Refusal;
+use refusals::Refusal;
 
 const MOST_TRADERS: u16 = 4000;
 

@@ -7,9 +7,9 @@ use lib.ListN.{length, getD, take, drop}
 use Rattle.std.specs.Iters.{counting}
 use Rattle.std.specs.declared.result.Result.{Result}
 use Rattle.std.specs.declared.result.Result.the-variants.{Ok, Err}
-use Rattle.lists.specs.declared.refusals.Lent.the-variants.{Work}
-use Rattle.lists.specs.declared.refusals.Refusal.{Refusal}
-use Rattle.lists.specs.declared.refusals.Refusal.the-variants.{WrongCount, TooShort}
+use Rattle.refusals.specs.declared.Lent.the-variants.{Work}
+use Rattle.refusals.specs.declared.Refusal.{Refusal}
+use Rattle.refusals.specs.declared.Refusal.the-variants.{WrongCount, TooShort}
 
 -- the trader to whom one step leads; a number of n or more is nobody, and from nobody a step leads to nobody
 unfoldable pub step : List ℕ → ℕ → ℕ

@@ -4,8 +4,8 @@ ghost use Rattle.rings.specs.Ring.{answer, left-by, with-flags};
 ghost use Rattle.rings.specs.Walk.{Told, Walked, flag-of, flagged, has-mark, unmet};
 ghost use lib.ListN.{length, set};
 ghost use mathlib.Core.Path.{_≡_};
-use lists::refusals::Lent;
-use lists::refusals::Refusal;
+use refusals::Lent;
+use refusals::Refusal;
 
 const MOST_TRADERS: usize = 4000;
 
@@ -116,10 +116,10 @@ fn turn_to_flag(work: &mut [u16], n: usize, i: usize)
 #[cfg(test)]
 mod tests {
     use super::mark_rings;
-    use lists::refusals::Lent;
-    use lists::refusals::Refusal;
-    use lists::refusals::RefusalDebug;
-    use lists::refusals::RefusalPartialEq;
+    use refusals::Lent;
+    use refusals::Refusal;
+    use refusals::RefusalDebug;
+    use refusals::RefusalPartialEq;
     use std::test::*;
 
     // three in a ring

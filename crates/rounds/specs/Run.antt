@@ -9,9 +9,9 @@ use Rattle.std.specs.declared.option.Option.{Option}
 use Rattle.std.specs.declared.option.Option.the-variants.{Some, None}
 use Rattle.std.specs.declared.result.Result.{Result}
 use Rattle.std.specs.declared.result.Result.the-variants.{Ok, Err}
-use Rattle.lists.specs.declared.refusals.Lent.the-variants.{Results, Work}
-use Rattle.lists.specs.declared.refusals.Refusal.{Refusal}
-use Rattle.lists.specs.declared.refusals.Refusal.the-variants.{TooShort}
+use Rattle.refusals.specs.declared.Lent.the-variants.{Results, Work}
+use Rattle.refusals.specs.declared.Refusal.{Refusal}
+use Rattle.refusals.specs.declared.Refusal.the-variants.{TooShort}
 use Rattle.lists.specs.Format.{fault, number-at, or-else}
 use Rattle.theory.specs.Trade.{Lists, result, out, round-count}
 use Rattle.rounds.specs.declared.running.Exchanged.{Exchanged}

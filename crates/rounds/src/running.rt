@@ -11,9 +11,9 @@ ghost use Rattle.rounds.specs.Run.{exchanged, results-left, run-fault, work-le
 ghost use Rattle.rounds.specs.Turn.{All-pointed, flagged-at, one-pointed, one-out};
 use lists::reading::list_at;
 use lists::reading::read;
-use lists::refusals::Lent;
-use lists::refusals::Refusal;
 use pointing::point_to;
+use refusals::Lent;
+use refusals::Refusal;
 use rings::mark_rings;
 
 // The entry of a trader who is in, and that of one who is out.
@@ -165,8 +165,8 @@ fn take_out(work: &mut [u16], n: usize, i: usize, round: u16)
 #[cfg(test)]
 mod tests {
     use super::*;
-    use lists::refusals::RefusalDebug;
-    use lists::refusals::RefusalPartialEq;
+    use refusals::RefusalDebug;
+    use refusals::RefusalPartialEq;
     use std::test::*;
 
     // the results and the number of rounds of a year with at most four traders

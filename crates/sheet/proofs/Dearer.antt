@@ -10,7 +10,7 @@ use lib.ListN.{length, drop, length-drop}
 use Rattle.std.proofs.shelf.Tests.{eq-eqb, ne-eqb}
 use Rattle.std.specs.declared.option.Option.{Option}
 use Rattle.std.specs.declared.option.Option.the-variants.{Some, None}
-use Rattle.lists.specs.declared.refusals.Refusal.{Refusal}
+use Rattle.refusals.specs.declared.Refusal.{Refusal}
 use Rattle.lists.specs.Format.{number-at, numbers, or-else}
 use Rattle.lists.proofs.Positions.{numbers-step, numbers-none}
 use Rattle.sheet.specs.Sheet.{stand-in, later-fault, own-fault, dearer-fault}

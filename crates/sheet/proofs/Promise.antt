@@ -9,7 +9,7 @@ use Rattle.std.specs.Joined.{joined}
 use Rattle.std.specs.declared.option.Option.the-variants.{None}
 use Rattle.std.specs.declared.result.Result.{Result}
 use Rattle.std.specs.declared.result.Result.the-variants.{Err}
-use Rattle.lists.specs.declared.refusals.Refusal.{Refusal}
+use Rattle.refusals.specs.declared.Refusal.{Refusal}
 use Rattle.rounds.specs.declared.running.Exchanged.{Exchanged}
 use Rattle.std.proofs.shelf.Tests.{le-ltb, lt-ltb, ltb-true}
 use Rattle.std.proofs.shelf.Lists.{getD-append-left, set-getD, length-replicate, drop-at}

@@ -10,7 +10,7 @@ use lib.ListN.{length, getD, set, replicate}
 use Rattle.std.proofs.shelf.Tests.{and-parts, ltb-true}
 use Rattle.std.specs.declared.option.Option.{Option}
 use Rattle.std.specs.declared.option.Option.the-variants.{Some, None}
-use Rattle.lists.specs.declared.refusals.Refusal.{Refusal}
+use Rattle.refusals.specs.declared.Refusal.{Refusal}
 use Rattle.lists.specs.Format.{Begins, list-bytes, lists-of, next-start, number-at, numbers, or-else, start}
 use Rattle.theory.specs.Trade.{Lists}
 use Rattle.lists.proofs.Accepted.{begins-list, begins-within, no-fault-both, short-list}

@@ -11,9 +11,9 @@ use Rattle.std.specs.declared.option.Option.{Option}
 use Rattle.std.specs.declared.option.Option.the-variants.{Some, None}
 use Rattle.std.specs.declared.result.Result.{Result}
 use Rattle.std.specs.declared.result.Result.the-variants.{Ok, Err}
-use Rattle.lists.specs.declared.refusals.Lent.the-variants.{Results, Sheet, Work}
-use Rattle.lists.specs.declared.refusals.Refusal.{Refusal}
-use Rattle.lists.specs.declared.refusals.Refusal.the-variants.{TooShort}
+use Rattle.refusals.specs.declared.Lent.the-variants.{Results, Sheet, Work}
+use Rattle.refusals.specs.declared.Refusal.{Refusal}
+use Rattle.refusals.specs.declared.Refusal.the-variants.{TooShort}
 use Rattle.lists.specs.Format.{bytes-of, encode, fault, lists-of, number-at, or-else}
 use Rattle.theory.specs.Promise.{Proper, rank}
 use Rattle.theory.specs.Trade.{Lists, out, result}

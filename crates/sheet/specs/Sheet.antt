@@ -10,8 +10,8 @@ use Rattle.std.specs.Iters.{counting}
 use Rattle.std.specs.Joined.{joined}
 use Rattle.std.specs.declared.option.Option.{Option}
 use Rattle.std.specs.declared.option.Option.the-variants.{Some, None}
-use Rattle.lists.specs.declared.refusals.Refusal.{Refusal}
-use Rattle.lists.specs.declared.refusals.Refusal.the-variants.{SheetLength, StandTaken, DearerLater, HolderElsewhere}
+use Rattle.refusals.specs.declared.Refusal.{Refusal}
+use Rattle.refusals.specs.declared.Refusal.the-variants.{SheetLength, StandTaken, DearerLater, HolderElsewhere}
 use Rattle.theory.specs.Certificate.{Valid-sheet}
 use Rattle.lists.specs.Format.{Encodable, bytes-of, encode, fault, lists-of, number-at, or-else}
 use Rattle.theory.specs.Promise.{Proper}

@@ -12,7 +12,7 @@ use crate::entries::stand_in;
 use lists::bytes::number_at;
 use lists::reading::list_at;
 use lists::reading::read;
-use lists::refusals::Refusal;
+use refusals::Refusal;
 
 // the mark of a stand that a trader before got
 const TAKEN: u8 = 1;

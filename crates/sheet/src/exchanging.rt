@@ -8,8 +8,8 @@ ghost use lib.ListN.{drop, length, replicate};
 ghost use mathlib.Core.List.{_++_};
 ghost use mathlib.Core.Path.{_≡_};
 use lists::reading::read;
-use lists::refusals::Lent;
-use lists::refusals::Refusal;
+use refusals::Lent;
+use refusals::Refusal;
 use rounds::running::Exchanged;
 use rounds::running::run_rounds;
 

@@ -15,7 +15,7 @@ use Rattle.std.proofs.shelf.Decimals.{length-decimal-le}
 use Rattle.std.proofs.shelf.Lists.{getD-default, getD-past}
 use Rattle.std.proofs.shelf.Tests.{cases-bool, cases-lt, ltb-true}
 use Rattle.theory.specs.Promise.{Distinct}
-use Rattle.lists.specs.declared.refusals.Refusal.{Refusal}
+use Rattle.refusals.specs.declared.Refusal.{Refusal}
 use Rattle.lists.specs.Format.{end-fault, length-fault, list-bytes, list-fault, next-start, number-at, numbers, or-else, own-list-fault, stands-fault}
 use Rattle.lists.proofs.Accepted.{all-distinct, good-list, good-numbers, no-fault-both}
 use Rattle.lists.proofs.Positions.{numbers-from}

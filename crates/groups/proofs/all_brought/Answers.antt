@@ -2,7 +2,7 @@ use mathlib.Core.Bool.{true}
 use mathlib.Core.Path.{_≡_}
 use borrow.Author.Count.{below-more}
 use native.Mathlib.Omega.{arith}
-use Rattle.std.proofs.shelf.Tests.{both-ways, false≢true, eq-eqb, ne-eqb, not-from-false, not-from-true}
+use Rattle.std.proofs.shelf.Tests.{both-ways, eq-eqb, ne-eqb, not-from-false, not-from-true}
 use Rattle.groups.specs.Groups.{in-group, stand-of}
 use Rattle.groups.proofs.all_brought.Needs as need
 use Rattle.groups.proofs.all_brought.Needs.{else-stand·by·then-stand·else-chosen-stand, else-stand·by·else-stand}
@@ -13,16 +13,12 @@ index-chosen-stand c =
     omega arith
 
 pub returns-then-chosen-stand : need.returns-then-chosen-stand
-returns-then-chosen-stand c =
-    record {
-      found = λ e. absurd (false≢true e);
-      none = λ _. (
-        c .loop-j .j,
-        c .loop-j-test .taken,
-        not-from-false _ (ne-eqb _ _ (c .if-stand .taken)),
-        not-from-true _ (eq-eqb _ _ (c .if-chosen-stand .taken)),
-      );
-    }
+returns-then-chosen-stand c = (
+  c .loop-j .j,
+  c .loop-j-test .taken,
+  not-from-false _ (ne-eqb _ _ (c .if-stand .taken)),
+  not-from-true _ (eq-eqb _ _ (c .if-chosen-stand .taken)),
+)
 
 pub loop-j-again : need.loop-j-again
 loop-j-again c =

@@ -1,5 +1,4 @@
-use mathlib.Core.Path.{_∙_, ap, sym}
-use Prim.Native.Nat.{_+_, _*_, _<_}
+use mathlib.Core.Path.{_∙_, ap}
 use lib.ListN.{length-set}
 use native.Mathlib.Omega.{arith}
 use Rattle.lists.specs.Format.{Begins, lists-of, numbers}

@@ -1,9 +1,9 @@
 -- The number and the place of each refusal, as they are printed and handed on.
 use Prim.Native.Nat.{ℕ, _+_, _*_}
-use Rattle.lists.specs.declared.refusals.Lent.{Lent}
-use Rattle.lists.specs.declared.refusals.Lent.the-variants.{Results, Sheet, Work}
-use Rattle.lists.specs.declared.refusals.Refusal.{Refusal}
-use Rattle.lists.specs.declared.refusals.Refusal.the-variants.{WrongLength, WrongCount, LongList, WrongStand, TooShort, SheetLength, StandTaken, DearerLater, HolderElsewhere, PaperFault}
+use Rattle.refusals.specs.declared.Lent.{Lent}
+use Rattle.refusals.specs.declared.Lent.the-variants.{Results, Sheet, Work}
+use Rattle.refusals.specs.declared.Refusal.{Refusal}
+use Rattle.refusals.specs.declared.Refusal.the-variants.{WrongLength, WrongCount, LongList, WrongStand, TooShort, SheetLength, StandTaken, DearerLater, HolderElsewhere, PaperFault}
 
 -- which lent slice is too short
 abbrev pub lent-place : Lent → ℕ

@@ -1,6 +1,6 @@
 // Why lists, a sheet or a paper are refused: one case for each reason, with what tells its place.
 ghost use mathlib.Core.Path.{_≡_};
-ghost use Rattle.lists.specs.Refusals.{lent-place, number, place};
+ghost use Rattle.refusals.specs.Refusals.{lent-place, number, place};
 
 // The lent slices that can be too short.
 #[derive(Clone, Copy, PartialEq, Eq, Debug)]
