@@ -1,21 +1,21 @@
 -- How the first fault of all traders is found a trader at a time.
 use mathlib.Core.Path.{_≡_, sym, ap, _∙_}
 use mathlib.Core.Bool.{Bool}
-use mathlib.Core.List.{List, []}
+use mathlib.Core.List.{List}
 use Prim.Native.Nat.{ℕ, zero, suc, _+_, _*_, _≤_, _<_}
 use native.Mathlib.Omega.{arith}
 use native.Mathlib.Numerals.{add-one}
 use lib.Dec.{eqb}
 use lib.ListN.{length, getD, set, replicate}
-use Rattle.std.proofs.shelf.Tests.{and-parts, ltb-true, ne-eqb}
+use Rattle.std.proofs.shelf.Tests.{and-parts, ltb-true}
 use Rattle.std.specs.declared.option.Option.{Option}
 use Rattle.std.specs.declared.option.Option.the-variants.{Some, None}
 use Rattle.refusals.specs.declared.Refusal.{Refusal}
-use Rattle.lists.specs.Format.{fault, list-bytes, lists-of, next-start, number-at, numbers, or-else, start}
+use Rattle.lists.specs.Format.{Begins, list-bytes, lists-of, next-start, number-at, numbers, or-else, start}
 use Rattle.theory.specs.Trade.{Lists}
-use Rattle.lists.proofs.Accepted.{list-within, no-fault-both, short-list}
+use Rattle.lists.proofs.Accepted.{begins-list, begins-within, no-fault-both, short-list}
 use Rattle.lists.proofs.Faults.{marks-set, no-mark}
-use Rattle.lists.proofs.Positions.{count-of-lists, length-of-part, list-is}
+use Rattle.lists.proofs.Positions.{count-of-lists, length-of-part, start-more}
 use Rattle.sheet.specs.Sheet.{stand-in, got-before, taken-fault, dearer-fault, holder-fault, entry-fault, trader-fault, traders-fault}
 use Rattle.sheet.proofs.Checked.{no-fault-test}
 
@@ -47,40 +47,35 @@ entry-below sheet n i ts again e =
     ltb-true _ _ (and-parts _ _ (no-fault-test _ _ (p .0)) .0)
 
 -- the marks of the stands got before: none, and one more
-pub marks-none : (sheet : List ℕ) (n t : ℕ) → eqb (getD (replicate n 0) t 0) 1 ≡ got-before sheet 0 t
+pub taken-none : (sheet : List ℕ) (n t : ℕ) → eqb (getD (replicate n 0) t 0) 1 ≡ got-before sheet 0 t
 unfolding got-before
-marks-none sheet n t = no-mark n t
+taken-none sheet n t = no-mark n t
 
-pub marks-more : (sheet taken : List ℕ) (i got : ℕ) → got ≡ stand-in sheet i → got < length taken →
+pub taken-more : (sheet taken : List ℕ) (i got : ℕ) → got ≡ stand-in sheet i → got < length taken →
     ((t : ℕ) → eqb (getD taken t 0) 1 ≡ got-before sheet i t) →
     (t : ℕ) → eqb (getD (set taken got 1) t 0) 1 ≡ got-before sheet (i + 1) t
 unfolding got-before
-marks-more sheet taken i got is h m t = rw (add-one i, ← is) (marks-set taken 1 got h (got-before sheet i) m t)
+taken-more sheet taken i got is h m t = rw (add-one i, ← is) (marks-set taken 1 got h (got-before sheet i) m t)
 
--- the list of trader i in accepted bytes
-module _ (bs : List ℕ) (accepted : fault bs ≡ None) (i at : ℕ) (h : i < number-at bs 0) (begins : at ≡ start bs i) where
-  pub within : next-start bs at ≤ length bs
-  within = rw begins (list-within bs accepted i h)
-
+-- the list of trader i, which begins at byte `at` of accepted bytes
+module _ (bs : List ℕ) (i at : ℕ) (begins : Begins bs i at) where
   pub part-length : length (list-bytes bs at) ≡ 2 * getD bs at 0
-  part-length = length-of-part bs at within
+  part-length = length-of-part bs at (begins-within bs i at begins)
 
-  pub part-short : length (list-bytes bs at) ≤ 80
-  part-short =
-      let few : getD bs at 0 ≤ 40 = rw begins (short-list bs accepted i h) in
-      let long = part-length in omega arith
+  pub few-stands : length (list-bytes bs at) ≤ 80
+  few-stands =
+      let few : getD bs at 0 ≤ 40 = rw (begins .2) (short-list bs (begins .0) i (begins .1)) in
+      let long = part-length in
+      omega arith
 
   pub trader-is : (sheet : List ℕ) (n : ℕ) (list : List ℕ) (again : Bool) → n ≡ number-at bs 0 → list ≡ list-bytes bs at →
       again ≡ got-before sheet i (stand-in sheet i) →
       entry-fault sheet n i (numbers list) again ≡ trader-fault (lists-of bs) sheet i
   unfolding trader-fault
-  trader-is sheet n list again count is before =
-      let l : getD (lists-of bs) i [] ≡ numbers list = list-is bs i h ∙ rw (is, begins) in
-      rw (count-of-lists bs, l, count, before)
+  trader-is sheet n list again count is before = rw (count-of-lists bs, ← begins-list bs i at begins, is, count, before)
 
   pub on : (size : ℕ) → size ≡ length (list-bytes bs at) → at + (1 + size) ≡ start bs (i + 1)
   on size is =
       let long = part-length in
-      let next : start bs (i + 1) ≡ next-start bs (start bs i) = rw (add-one i) in
-      let same : next-start bs at ≡ next-start bs (start bs i) = ap (next-start bs) begins in
+      let next = start-more bs i ∙ ap (next-start bs) (sym (begins .2)) in
       omega arith

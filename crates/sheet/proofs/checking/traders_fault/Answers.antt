@@ -4,21 +4,20 @@ use native.Mathlib.Omega.{arith}
 use borrow.Author.Needs.{needs}
 use lib.Dec.{eqb}
 use lib.ListN.{length, length-set, getD}
-use Rattle.lists.specs.Format.{lists-of, list-bytes, number-at, numbers}
-use Rattle.lists.proofs.Accepted.{some-traders}
+use Rattle.lists.specs.Format.{Begins, lists-of, list-bytes, numbers}
+use Rattle.lists.proofs.Accepted.{begins-within, some-traders}
 use Rattle.sheet.specs.Sheet.{stand-in, traders-fault}
-use Rattle.sheet.proofs.Traders.{traders-wrong, traders-next, traders-done, entry-below, marks-none, marks-more, within, part-length, part-short, trader-is, on}
+use Rattle.sheet.proofs.Traders.{traders-wrong, traders-next, traders-done, entry-below, taken-none, taken-more, part-length, few-stands, trader-is, on}
 use Rattle.sheet.proofs.checking.traders_fault.Needs as need
 
 pub loop-trader-holds : need.loop-trader-holds
 loop-trader-holds c =
     let e : c .args .n - 0 ≡ c .args .n = omega arith in
-    (rw e, marks-none (c .args .sheet .now) 4000, refl, refl)
+    (rw e, taken-none (c .args .sheet .now) 4000, refl, refl)
 
 pub trader-fault-requires : need.trader-fault-requires
 trader-fault-requires c κs =
-    let h : c .loop-trader .trader < number-at (c .args .bytes .now) 0 = omega arith in
-    let short = part-short (c .args .bytes .now) (c .pre .accepted) (c .loop-trader .trader) (c .loop-trader .at) h (c .loop-trader .inv .2) in
+    let short = few-stands (c .args .bytes .now) (c .loop-trader .trader) (c .loop-trader .at) (c .pre .accepted, omega arith, c .loop-trader .inv .2) in
     let few = some-traders (c .args .bytes .now) (c .pre .accepted) in
     (omega arith, simp (c .list-at-list .ensures) (omega arith))
 
@@ -28,7 +27,7 @@ returns-in-Some c =
     let sheet = c .args .sheet .now in
     let i = c .loop-trader .trader in
     let again = eqb (getD (c .loop-trader .taken) (stand-in sheet i) 0) 1 in
-    let is = trader-is bs (c .pre .accepted) i (c .loop-trader .at) (omega arith) (c .loop-trader .inv .2) sheet (c .args .n) (c .list-at-list .result .now) again (c .pre .count)
+    let is = trader-is bs i (c .loop-trader .at) (c .pre .accepted, omega arith, c .loop-trader .inv .2) sheet (c .args .n) (c .list-at-list .result .now) again (c .pre .count)
     (c .list-at-list .ensures) (c .loop-trader .inv .1 (stand-in sheet i)) in
     sym (traders-wrong (lists-of bs) sheet i (c .args .n - i) (traders-fault (lists-of bs) sheet 0 (c .args .n)) (c .loop-trader .inv .0) (c .in-Some .fault) (omega arith) (sym (c .in-Some .ensures tt ∙ is)))
 
@@ -46,8 +45,9 @@ add-at-in-loop-trader c =
     let bs = c .args .bytes .now in
     let i = c .loop-trader .trader in
     let at = c .loop-trader .at in
-    let inside = within bs (c .pre .accepted) i at (omega arith) (c .loop-trader .inv .2) in
-    let long = part-length bs (c .pre .accepted) i at (omega arith) (c .loop-trader .inv .2) in
+    let begins : Begins bs i at = (c .pre .accepted, omega arith, c .loop-trader .inv .2) in
+    let inside = begins-within bs i at begins in
+    let long = part-length bs i at begins in
     let size : length (c .list-at-list .result .now) ≡ length (list-bytes bs at) = ap length (c .list-at-list .ensures) in
     search needs
 
@@ -61,15 +61,15 @@ loop-trader-again c =
     let taken = c .loop-trader .taken in
     let list = c .list-at-list .result .now in
     let got = c .stand-in .result in
-    let h : i < number-at bs 0 = omega arith in
+    let begins : Begins bs i at = (c .pre .accepted, omega arith, c .loop-trader .inv .2) in
     let again = eqb (getD taken (stand-in sheet i) 0) 1 in
-    let is = trader-is bs (c .pre .accepted) i at h (c .loop-trader .inv .2) sheet n list again (c .pre .count) (c .list-at-list .ensures) (c .loop-trader .inv .1 (stand-in sheet i)) in
+    let is = trader-is bs i at begins sheet n list again (c .pre .count) (c .list-at-list .ensures) (c .loop-trader .inv .1 (stand-in sheet i)) in
     let below = entry-below sheet n i (numbers list) again (sym (c .in-rest .ensures tt)) in
     let few = some-traders bs (c .pre .accepted) in
     let room : got < length taken = omega (arith, c .stand-in .ensures) in (
       traders-next (lists-of bs) sheet i (n - i) (traders-fault (lists-of bs) sheet 0 n) (c .loop-trader .inv .0) (n - (i + 1)) (omega arith) (sym (c .in-rest .ensures tt ∙ is)),
-      marks-more sheet taken i got (c .stand-in .ensures) room (c .loop-trader .inv .1),
-      on bs (c .pre .accepted) i at h (c .loop-trader .inv .2) (length list) (ap length (c .list-at-list .ensures)),
+      taken-more sheet taken i got (c .stand-in .ensures) room (c .loop-trader .inv .1),
+      on bs i at begins (length list) (ap length (c .list-at-list .ensures)),
       simp length-set (c .loop-trader .inv .3),
     )
 
