@@ -11,6 +11,7 @@ ghost use Rattle.agreement.specs.Agreement.{Agreed-by, agree-fault, difference
 use crate::Fault;
 use crate::each::paper_in;
 use lists::bytes::number_at;
+use papers::writing::MOST_PAPER;
 use papers::writing::paper;
 use refusals::Refusal;
 use sheet::checking::check;
@@ -18,9 +19,6 @@ use sheet::entries::write_entry;
 
 // The most that a sheet has: four bytes for each of 4,000 traders.
 const MOST_SHEET: usize = 16_000;
-
-// No paper has more than 8 + 2 * 4000 + 1 + 4 * 40 bytes.
-const MOST_PAPER: usize = 8_192;
 
 // Writes the sheet that the papers of n traders make.
 fn write_sheet(papers: &[u8], n: u16, sheet: &mut [u8])

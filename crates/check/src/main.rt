@@ -6,15 +6,13 @@ use console::Ended;
 use console::EndedDebug;
 use console::EndedFromAlloc;
 use console::EndedFromIo;
+use console::MOST_LISTS;
 use console::read_input;
 use console::refusal_line;
 use options::Command;
 use options::Files;
 use refusals::Refusal;
 use sheet::checking::check;
-
-// The longest lists that can be accepted have 2 + 4000 * (1 + 2 * 40) bytes; one byte more tells a file that is too long.
-const MOST_LISTS: u64 = 324_003;
 
 // The longest sheet has 4 * 4000 bytes.
 const MOST_SHEET: u64 = 16_001;

@@ -13,6 +13,9 @@ use std::fs;
 use std::io;
 use std::io::Read;
 
+// The longest lists that can be accepted have 2 + 4000 * (1 + 2 * 40) bytes; one byte more tells a file that is too long.
+pub const MOST_LISTS: u64 = 324_003;
+
 // Why a program ends with status 1; what there is to say has been printed.
 #[derive(Clone, Copy, Debug)]
 pub enum Ended {

@@ -11,12 +11,15 @@ use console::Ended;
 use console::EndedDebug;
 use console::EndedFromAlloc;
 use console::EndedFromIo;
+use console::MOST_LISTS;
 use console::read_input;
 use console::refusal_line;
+use lists::reading::MOST_TRADERS;
 use options::Command;
 use options::Options;
 use output::write_whole;
 use papers::splitting::first_size;
+use papers::writing::MOST_PAPER;
 use papers::writing::paper;
 use refusals::Refusal;
 use rounds::running::Exchanged;
@@ -25,14 +28,6 @@ use std::alloc::AllocError;
 use std::alloc::Global;
 use text::pages::push_page;
 use text::report::push_report;
-
-// The longest lists that can be accepted have 2 + 4000 * (1 + 2 * 40) bytes; one byte more tells a file that is too long.
-const MOST_BYTES: u64 = 324_003;
-
-const MOST_TRADERS: usize = 4000;
-
-// The longest paper: a ring of all traders, and a list of 40 dearer stands.
-const MOST_PAPER: usize = 8169;
 
 // What an exchange has left in its slices, cut to the number of traders.
 #[derive(Drop)]
@@ -44,9 +39,10 @@ struct Year {
 
 // Does the exchange; the lent slices have room for as many traders as there can be.
 fn exchange_year(heap: Global, bytes: &[u8]) -> Result<Result<Year, Refusal>, AllocError> {
-    let mut results = vec![in heap; 0u16; MOST_TRADERS]?;
-    let mut sheet = vec![in heap; 0u8; 4 * MOST_TRADERS]?;
-    let mut work = vec![in heap; 0u16; 3 * MOST_TRADERS]?;
+    let most = MOST_TRADERS as usize;
+    let mut results = vec![in heap; 0u16; most]?;
+    let mut sheet = vec![in heap; 0u8; 4 * most]?;
+    let mut work = vec![in heap; 0u16; 3 * most]?;
     match exchange(bytes, &mut results, &mut sheet, &mut work) {
         Ok(exchanged) => {
             results.truncate(exchanged.traders as usize);
@@ -153,7 +149,7 @@ fn main(rt: LibcRuntime) -> Result<(), Ended> {
             eprint!(rt, "{}", options::USAGE)?;
             Err(Ended::Failed)
         }
-        Command::Run(options) => match read_input(&rt, options.lists.as_str(), MOST_BYTES) {
+        Command::Run(options) => match read_input(&rt, options.lists.as_str(), MOST_LISTS) {
             Ok(bytes) => run(&rt, &options, bytes.as_slice()),
             Err(e) => {
                 let name = options.lists;

@@ -13,9 +13,10 @@ use crate::bytes::byte_at;
 use crate::bytes::number_in;
 use refusals::Refusal;
 
-const MOST_TRADERS: u16 = 4000;
+// No year has more traders, and no list more stands.
+pub const MOST_TRADERS: u16 = 4000;
 
-const MOST_STANDS: u8 = 40;
+pub const MOST_STANDS: u8 = 40;
 
 // The number of traders.
 fn read_count(bytes: &[u8]) -> Result<u16, Refusal>

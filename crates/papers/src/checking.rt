@@ -11,10 +11,9 @@ use crate::bytes::dearer_count;
 use lists::bytes::byte_at;
 use lists::bytes::number_at;
 use lists::bytes::number_in;
+use lists::reading::MOST_TRADERS;
 use lists::reading::read_list;
 use refusals::Refusal;
-
-const MOST_TRADERS: u16 = 4000;
 
 // Where the own number, the round, the stand got and the length of the ring stand.
 const OWN: usize = 0;

@@ -18,6 +18,9 @@ use sheet::checking::check;
 use sheet::entries::round_in;
 use sheet::entries::stand_in;
 
+// The longest paper has 8 + 2 * 4000 + 1 + 4 * 40 bytes: a ring of all traders, and a list of 40 dearer stands.
+pub const MOST_PAPER: usize = 8169;
+
 // How many traders are on a trader's ring.
 fn ring_length(sheet: &[u8], n: u16, trader: u16) -> u16
     ensures { λ r. ⌜ r ≡ length (ring-of (now (sheet .entry)) n trader) ⌝ }

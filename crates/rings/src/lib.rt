@@ -4,10 +4,9 @@ ghost use Rattle.rings.specs.Ring.{answer, left-by, with-flags};
 ghost use Rattle.rings.specs.Walk.{Told, Walked, flag-of, flagged, has-mark, unmet};
 ghost use lib.ListN.{length, set};
 ghost use mathlib.Core.Path.{_≡_};
+use lists::reading::MOST_TRADERS;
 use refusals::Lent;
 use refusals::Refusal;
-
-const MOST_TRADERS: usize = 4000;
 
 // The mark of a trader whom no walk has met yet.
 const UNMET: u16 = 0;
@@ -22,7 +21,7 @@ pub fn mark_rings(next: &[u16], work: &mut [u16]) -> Result<(), Refusal>
     ensures work { λ r. ⌜ now (work .exit) ≡ left-by r (now (next .entry)) (now (work .entry)) ⌝ }
 {
     let n = next.len();
-    if n == 0 || n > MOST_TRADERS {
+    if n == 0 || n > MOST_TRADERS as usize {
         return Err(Refusal::WrongCount);
     }
     if work.len() < 2 * n {

@@ -2,7 +2,7 @@
 ghost use Prim.Native.Nat.{_+_, _*_, _≤_};
 ghost use Rattle.lists.specs.Format.{fault, lists-of, number-at, unless};
 ghost use Rattle.rounds.specs.Run.{exchanged, results-left};
-ghost use Rattle.sheet.specs.Exchange.{Promised-by, entries, exchange-fault, sheet-left, work-cleared};
+ghost use Rattle.sheet.specs.Exchange.{Promised-by, entries, exchange-fault, lent-fault, sheet-left, work-cleared};
 ghost use Rattle.std.specs.declared.option.Option.the-variants.{None};
 ghost use lib.ListN.{drop, length, replicate};
 ghost use mathlib.Core.List.{_++_};
@@ -28,19 +28,30 @@ pub fn exchange(
     ensures work { λ r. ⌜ now (work .exit) ≡ work-cleared r (lists-of (now (bytes .entry))) (now (work .entry)) ⌝ }
     ensures promise { λ r. ⌜ Promised-by r (now (bytes .entry)) (now (results .exit)) (now (sheet .exit)) ⌝ }
 {
-    let n = read(bytes)? as usize;
-    if results.len() < n {
-        return Err(Refusal::TooShort {
+    let n = read(bytes)?;
+    if let Some(fault) = lent_fault(n, results.len(), sheet.len(), work.len()) {
+        return Err(fault);
+    }
+    exchange_all(bytes, n as usize, results, sheet, work)
+}
+
+// The first lent slice that is too short for n traders, by the lengths of the slices.
+fn lent_fault(n: u16, results: usize, sheet: usize, work: usize) -> Option<Refusal>
+    ensures { λ r. ⌜ r ≡ lent-fault n results sheet work ⌝ }
+{
+    let n = n as usize;
+    if results < n {
+        return Some(Refusal::TooShort {
             lent: Lent::Results,
         });
     }
-    if sheet.len() < 4 * n {
-        return Err(Refusal::TooShort { lent: Lent::Sheet });
+    if sheet < 4 * n {
+        return Some(Refusal::TooShort { lent: Lent::Sheet });
     }
-    if work.len() < 3 * n {
-        return Err(Refusal::TooShort { lent: Lent::Work });
+    if work < 3 * n {
+        return Some(Refusal::TooShort { lent: Lent::Work });
     }
-    exchange_all(bytes, n, results, sheet, work)
+    None
 }
 
 // The exchange of accepted lists, with room for all that is written.

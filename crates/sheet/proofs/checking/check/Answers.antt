@@ -1,4 +1,0 @@
-use Rattle.sheet.proofs.checking.check.Needs as need
-
-pub returns : need.returns
-returns c = c .check-accepted .ensures

@@ -1,4 +1,0 @@
-use Rattle.sheet.proofs.exchanging.exchange.Needs as need
-
-pub returns : need.returns
-returns c = c .exchange-all .ensures
