@@ -32,14 +32,14 @@ ring-few sheet own (suc k) t =
     let ih = ring-few sheet own k (stand-in sheet t) in
     elim (cases-bool (eqb (stand-in sheet t) own)) [ inl e ↦ rw e (omega arith) | inr e ↦ rw e (omega arith) ]
 
-paper-short : (sheet : List ℕ) (n i : ℕ) (l : List ℕ) → n ≤ 4000 → length l ≤ 40 → length (paper-for sheet n i l) ≤ 8192
+paper-short : (sheet : List ℕ) (n i : ℕ) (l : List ℕ) → n ≤ 4000 → length l ≤ 40 → length (paper-for sheet n i l) ≤ 8169
 paper-short sheet n i l most short =
     let long = length-paper sheet n i l in
     let ring = ring-few sheet i n i in
     let few = dearer-few (stand-in sheet i) l in
     omega arith
 
-pub paper-fits : (bs sheet : List ℕ) (i : ℕ) → check-fault bs sheet ≡ None → i < number-at bs 0 → paper-fault bs sheet i 8192 ≡ None
+pub paper-fits : (bs sheet : List ℕ) (i : ℕ) → check-fault bs sheet ≡ None → i < number-at bs 0 → paper-fault bs sheet i 8169 ≡ None
 paper-fits bs sheet i ok h =
     let accepted = no-fault-both (fault bs) (sheet-fault (lists-of bs) sheet) ok .0 in
     let enc = accepted-encodable bs accepted in
@@ -47,9 +47,9 @@ paper-fits bs sheet i ok h =
     let below : i < length (lists-of bs) = omega arith in
     let paper = paper-of (lists-of bs) sheet i in
     let short = paper-short sheet (length (lists-of bs)) i (getD (lists-of bs) i []) (enc .most) (enc .short i below) in
-    let room : room-fault 8192 (paper-of (lists-of bs) sheet i) ≡ None = rw (le-ltb 8192 (length (paper-of (lists-of bs) sheet i)) short) in
+    let room : room-fault 8169 (paper-of (lists-of bs) sheet i) ≡ None = rw (le-ltb 8169 (length (paper-of (lists-of bs) sheet i)) short) in
     let known : trader-fault (number-at bs 0) i ≡ None = rw (lt-ltb i (number-at bs 0) h) in
-    ap (λ o. or-else o (or-else (trader-fault (number-at bs 0) i) (room-fault 8192 paper))) ok ∙ (ap (λ o. or-else o (room-fault 8192 paper)) known ∙ room)
+    ap (λ o. or-else o (or-else (trader-fault (number-at bs 0) i) (room-fault 8169 paper))) ok ∙ (ap (λ o. or-else o (room-fault 8169 paper)) known ∙ room)
 
 -- so a paper is written
 pub never-refused : {A : Type 0} (o : Option Refusal) (a : A) (f : Refusal) → o ≡ None → _≡_ {A = Result A Refusal} (Err f) (format.unless o a) → ⊥

@@ -12,7 +12,7 @@ use Rattle.agreement.proofs.together.check_written.Needs as need
 pub returns-in-Ok : need.returns-in-Ok
 returns-in-Ok c =
     let size = no-fault _ _ _ (c .in-Ok .ensures tt .answer) .1 in
-    let same = right-paper (c .in-Ok .size) (c .paper .last .out) (paper-of (lists-of (c .args .lists .now)) (c .args .sheet .now) (c .args .trader)) (replicate 8192 0)
+    let same = right-paper (c .in-Ok .size) (c .paper .last .out) (paper-of (lists-of (c .args .lists .now)) (c .args .sheet .now) (c .args .trader)) (replicate 8169 0)
     size (c .in-Ok .ensures tt .out) in
     c .check-like .ensures ∙ ap (λ (xs : List ℕ). unless (on-paper (c .args .trader) (unlike-fault (c .args .given .now) xs)) (c .args .trader)) same
 
