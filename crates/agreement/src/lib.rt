@@ -1,4 +1,6 @@
 // The papers of all traders together: each passes with its trader's list, and they agree with each other.
+#![tactic(auto)]
+
 ghost use Rattle.std.specs.Prelude.{◌≡◌};
 ghost use Rattle.lists.specs.Format.{end_fault, fault, number_at};
 ghost use Rattle.agreement.specs.Agreement.{AgreedBy, papers_fault, refused, unless};

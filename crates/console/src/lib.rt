@@ -1,4 +1,6 @@
 // What the programs share: bounded input, how a refusal is told, and how a program ends that did not do its work.
+#![tactic(auto)]
+
 ghost use Rattle.std.specs.Prelude.{◌≡◌, ◌≤◌, IfOk, vec_len, string_bytes};
 ghost use Rattle.console.specs.Text.{refusal_text};
 ghost use Rattle.refusals.specs.Refusals.{number, place};

@@ -1,4 +1,6 @@
 // The program `exchange`: reads the lists of a year, does the exchange, and prints what everybody gets.
+#![tactic(auto)]
+
 mod options;
 mod output;
 

@@ -1,5 +1,7 @@
 // The search through all groups of a year of few traders, and all ways in which a group could share the stands that it
 // brought, for one that does better than results give. It goes by the lists and the results alone.
+#![tactic(auto)]
+
 ghost use Rattle.std.specs.Prelude.{◌≡◌, ℕ, ◌+◌, ◌*◌, ◌<◌, ◌≤◌, true, false, [], length, None, MatchBool, MatchOption, ◌≢◌, nat_le};
 ghost use Rattle.lists.specs.Format.{fault, lists_of, number_at, numbers};
 ghost use Rattle.theory.specs.Promise.{rank_in};

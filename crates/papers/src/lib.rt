@@ -1,4 +1,6 @@
 // A trader's paper: it shows the ring, and that nobody passed the trader over, to whoever has that trader's list.
+#![tactic(auto)]
+
 mod bytes;
 pub mod checking;
 pub mod splitting;

@@ -1,4 +1,6 @@
 // What a trader who is in points to: the dearest listed stand whose holder is in, or the own one.
+#![tactic(auto)]
+
 ghost use Rattle.std.specs.Prelude.{◌≡◌};
 ghost use Rattle.lists.specs.Format.{numbers};
 ghost use Rattle.pointing.specs.Pointing.{holder_in, points_from, stand_of, FirstIsPointedTo};

@@ -1,4 +1,6 @@
 // Why lists, a sheet or a paper are refused: one case for each reason, with what tells its place.
+#![tactic(auto)]
+
 ghost use Rattle.std.specs.Prelude.{◌≡◌};
 ghost use Rattle.refusals.specs.Refusals.{lent_place, number, place};
 

@@ -1,4 +1,6 @@
 // Who is on a ring: a walk from each trader to the holder of the stand that it points to, and on, may come back to it.
+#![tactic(auto)]
+
 ghost use Rattle.std.specs.Prelude.{◌≡◌, ◌+◌, ◌*◌, ◌<◌, ◌≤◌, length, slice_set};
 ghost use Rattle.rings.specs.Ring.{answer, left_by, with_flags};
 ghost use Rattle.rings.specs.Walk.{Told, Walked, flag_of, flagged, has_mark, unmet};

@@ -1,2 +1,4 @@
 // The exchange as code, round by round.
+#![tactic(auto)]
+
 pub mod running;

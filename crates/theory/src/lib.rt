@@ -1,4 +1,6 @@
 // What is proved of the exchange as it is defined: each function's contract names a statement.
+#![tactic(auto)]
+
 ghost use Rattle.theory.specs.Promise.{Truthful, Core, Shared, Ends};
 ghost use Rattle.theory.specs.Statements.{SomebodyOnARing, RingsApart, EveryRoundSomebodyLeaves, RoundsCounted, DearestOfThoseIn, NeverLessDear, AnyOrder, SomeOrder, OnlyTheTopMatters, ResultUnbettered, CoreUnique, NoGroupDoesBetter, OthersAreBettered, OwnSheetValid, ValidSheetIsTheResult, LeastRounds, RoundsByRings};
 ghost use Rattle.theory.specs.Years.{WorkedYears, KeepingIsBettered, PairsAreNotEnough};

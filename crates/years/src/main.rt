@@ -1,4 +1,6 @@
 // The program `years`: the worked years and thousands of random ones, each tried in all the ways that few traders allow.
+#![tactic(auto)]
+
 mod by_hand;
 mod chances;
 mod entries;

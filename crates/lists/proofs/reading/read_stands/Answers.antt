@@ -4,21 +4,21 @@ use Rattle.lists.specs.Format.{number_at, stand_fault, stands_fault}
 use Rattle.lists.proofs.Faults.{stands_wrong, stands_next, stands_none, stand_below, refused_fault, no_fault, marks_more, marks_bound}
 use Rattle.lists.proofs.reading.read_stands.Goals as goal
 
-pub returns-in-err-stand : goal.returns-in-err-stand
-returns-in-err-stand c =
-    let p = err_from_is_err_and c.from-residual.result c.from-residual.ensures.1 in
+pub returns-in_err-stand : goal.returns-in_err-stand
+returns-in_err-stand c =
+    let p = err_from_is_err_and c.from_residual.result c.from_residual.ensures.1 in
     let more : 0 < c.args.count - c.loop-k.k = omega arith in
     let t = number_at c.args.bytes.now c.loop-k.at in
     let bad = stands_wrong c.args.bytes.now c.args.n c.args.own c.loop-k.invariant.0 _ c.loop-k.at _ c.loop-k.invariant.1 _ (c.loop-k.invariant.2 t) _ more
-    (refused_fault _ _ _ c.in-err-stand.ensures) in
+    (refused_fault _ _ _ c.in_err-stand.ensures) in
     record { answer = rw (p.1, p.2) (simp bad); marks = c.loop-k.invariant.3 }
 
 pub loop-k-preserved : goal.loop-k-preserved
 loop-k-preserved c =
     let one : c.args.count - c.loop-k.k ≡ c.args.count - (c.loop-k.k + 1) + 1 = omega arith in
-    let t = c.in-ok-stand.stand in
+    let t = c.in_ok-stand.stand in
     let u = number_at c.args.bytes.now c.loop-k.at in
-    let ok = no_fault _ _ _ c.in-ok-stand.ensures in
+    let ok = no_fault _ _ _ c.in_ok-stand.ensures in
     let below = stand_below c.args.bytes.now c.args.n c.args.own c.loop-k.at _ ok.0 in
     let within : t < length c.loop-k.seen = omega (arith, ok.1) in (
       t ∷ c.loop-k.invariant.0,

@@ -1,4 +1,6 @@
 // The program `check`: checks a sheet, or the papers of all traders, against the lists of a year.
+#![tactic(auto)]
+
 mod options;
 
 use agreement::Fault;
