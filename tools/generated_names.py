@@ -5,7 +5,8 @@ usage: rt check --generated FOLDER --old-names      in the crate's folder: FOLDE
        tools/generated_names.py CRATE FOLDER        at the top of the repository
 
 A word of those files that is no name of today is turned where exactly one name of the function, or else of the crate,
-is that word with some of its hyphens as `_`. What is left is printed.
+is that word with some of its hyphens as `_`; else part by part, where it is joined by `+` or `via`. A name that the file
+itself declares goes to snake case. What is left is printed.
 """
 import collections, glob, json, re, sys
 
@@ -36,17 +37,29 @@ def index(names):
     return found
 
 
+def parted(name, sources):
+    """A name that is joined by `via` or `+`, with the names of the code in it as the code spells them."""
+    for s in sources:
+        name = re.sub(rf"(?<![\w']){plain(s)}(?![\w'])", s, name)
+    return name
+
+
 def main(crate, folder):
     said = json.load(open(f"{folder}/names.json"))
     whole = set(strings(said))
     words = {w for n in whole for w in n.split(".")}
     everywhere = index(words)
+    code = "\n".join(open(p, encoding="utf-8").read() for p in glob.glob(f"crates/{crate}/src/*.rt"))
+    sources = sorted(set(re.findall(r"\b[A-Za-z]+(?:_\w+)+\b", code)), key=len, reverse=True)
     left = collections.Counter()
     for path in sorted(glob.glob(f"crates/{crate}/proofs/*/**/*.antt", recursive=True)):
         text = open(path, encoding="utf-8").read()
         function = path.split("/proofs/")[1].rsplit("/", 1)[0].replace("/", ".")
         own = said.get(f"Rattle-{crate}-proofs.{function}.Lts", {})
         here = index({w for n in strings(own) for w in n.split(".")})
+        declared = set(re.findall(r"^\s*(?:abbrev |pub )*([^\W\d][\w'-]*) (?:\([^)]*\) )*[:=]|\blet ([^\W\d][\w'-]*)", text, re.M))
+        declared |= {("", w) for bound in re.findall(r"λ ([^.]*)\. ", text) for w in bound.split()}
+        declared = {w for pair in declared for w in pair if "-" in w and f"goal.{w}" not in text}
         kept = {w for source, names in USE.findall(text) if ".proofs." + function not in source for w in re.findall(r"[\w'-]+", names)}
 
         def word(m):
@@ -59,10 +72,14 @@ def main(crate, folder):
                     return next(iter(to))
                 if to:
                     break
+            if name in declared:
+                return name.replace("-", "_")
+            if re.search(r"-via-|\+", name):
+                return parted(name, sources)
             left[(path, name, tuple(sorted(to)))] += 1
             return name
 
-        new = "\n".join(l if l.lstrip().startswith("--") else WORD.sub(word, l) for l in text.split("\n"))
+        new = "\n".join(l if l.lstrip().startswith("--") else re.sub(r"\.-(?=\w)", "._", WORD.sub(word, l)) for l in text.split("\n"))
         if new != text:
             open(path, "w", encoding="utf-8").write(new)
     for (path, name, to), n in left.items():

@@ -8,7 +8,7 @@ loop-place-init c = (refl, step c.args.inside.now c.args.list.now 0 _ refl)
 pub loop-place-preserved : goal.loop-place-preserved
 loop-place-preserved c =
     let on = next c.args.inside.now c.args.list.now c.loop-place.place _ _ c.loop-place.invariant.1 (omega arith)
-    c.number-at-stand.ensures (sym c.if-holder-in.ensures) in
+    c.number_at-stand.ensures (sym c.if-holder_in.ensures) in
     (on, step c.args.inside.now c.args.list.now (c.loop-place.place + 1) _ on)
 
 pub returns : goal.returns

@@ -11,13 +11,13 @@ traders-init c =
     let e : c.fill.new.self ≡ replicate (length c.args.marks.now) 0 = search rules in
     subst (λ m. Done c.args.next.now m 0) (sym (e ∙ ap (λ n. replicate n 0) c.requires.same)) (done_start c.args.next.now)
 
-pub traders-preserved-then-not-has-mark-2 : goal.traders-preserved-then-not-has-mark-2
-traders-preserved-then-not-has-mark-2 c =
+pub traders-preserved-then-not-has_mark-2 : goal.traders-preserved-then-not-has_mark-2
+traders-preserved-then-not-has_mark-2 c =
     let marks = c.walk-met.new.marks in
     let len : length marks ≡ length c.args.next.now = c.walk-met.ensures.same_length ∙ c.traders.invariant.half.same_length in
     done_elsewhere c.args.next.now c.traders.marks marks c.traders.start c.walk-met.result _
     c.traders.invariant c.walk-met.ensures c.traders-test.true c.requires.most
-    (λ l h. has_mark_not marks c.walk-met.result (c.traders.start + 1) c.if-not-has-mark-2.ensures (omega arith) h)
+    (λ l h. has_mark_not marks c.walk-met.result (c.traders.start + 1) c.if-not-has_mark-2.ensures (omega arith) h)
 
 pub ring-preserved : goal.ring-preserved
 ring-preserved c =
@@ -25,15 +25,15 @@ ring-preserved c =
     let marks = c.walk-met.new.marks in
     let e = c.walk-met.result in
     let len : length marks ≡ length next = c.walk-met.ensures.same_length ∙ c.traders.invariant.half.same_length in
-    let p = has_mark_parts marks e (c.traders.start + 1) c.if-not-has-mark-2.ensures in
+    let p = has_mark_parts marks e (c.traders.start + 1) c.if-not-has_mark-2.ensures in
     let l : e < length next = omega (arith, p.0) in
     let r =
     ring_found next c.traders.marks marks c.traders.start e _
     c.traders.invariant c.walk-met.ensures (omega arith) c.requires.most c.traders-test.true l p.1
     in
-    let G = going_on next marks c.ring.marks e c.ring.-step c.ring.at c.ring.invariant.1 in (
-      going_within next marks c.ring.marks e c.ring.-step c.ring.at G c.ring.invariant.0 len r.0 r.2 l,
-      going_more next marks c.ring.marks e c.ring.-step c.ring.at G c.ring.invariant.0 len c.if-at-met.false,
+    let G = going_on next marks c.ring.marks e c.ring._step c.ring.at c.ring.invariant.1 in (
+      going_within next marks c.ring.marks e c.ring._step c.ring.at G c.ring.invariant.0 len r.0 r.2 l,
+      going_more next marks c.ring.marks e c.ring._step c.ring.at G c.ring.invariant.0 len c.if-at-met.false,
     )
 
 -- once around the ring: the loop is left where it is back, and never for want of steps
@@ -43,18 +43,18 @@ around c =
     let marks = c.walk-met.new.marks in
     let e = c.walk-met.result in
     let len : length marks ≡ length next = c.walk-met.ensures.same_length ∙ c.traders.invariant.half.same_length in
-    let p = has_mark_parts marks e (c.traders.start + 1) c.if-not-has-mark-2.ensures in
+    let p = has_mark_parts marks e (c.traders.start + 1) c.if-not-has_mark-2.ensures in
     let l : e < length next = omega (arith, p.0) in
     let r =
     ring_found next c.traders.marks marks c.traders.start e _
     c.traders.invariant c.walk-met.ensures (omega arith) c.requires.most c.traders-test.true l p.1
     in
-    let G = going_on next marks c.ring.marks e c.ring.-step c.ring.at c.ring.invariant.1 in
+    let G = going_on next marks c.ring.marks e c.ring._step c.ring.at c.ring.invariant.1 in
     elim c.ring-test.branch [
       | else-ring-test w ↦ absurd (G.not_yet r.0 (let h = r.1 in let g = w.ring-test.false in omega arith) r.2)
       | then-ring-test+then-at-met w ↦
           subst (λ m. Ringed next marks m e) (sym w.marks-is)
-          (going_back next marks c.ring.marks e c.ring.-step c.ring.at G c.ring.invariant.0 len w.ring-test.true w.if-at-met.true)
+          (going_back next marks c.ring.marks e c.ring._step c.ring.at G c.ring.invariant.0 len w.ring-test.true w.if-at-met.true)
     ]
 
 pub traders-preserved : goal.traders-preserved

@@ -10,7 +10,7 @@ loop-i-init c = flag_start c.args.work.now (map (flag_of c.args.work.now c.args.
 
 pub loop-i-preserved : goal.loop-i-preserved
 loop-i-preserved c =
-    c.turn-to-flag.ensures
+    c.turn_to_flag.ensures
     ∙ flag_more c.args.work.now c.loop-i.work c.args.n c.loop-i.i (flag_of c.loop-i.work c.args.n c.loop-i.i)
     c.requires c.loop-i-test.true c.loop-i.invariant refl
 
