@@ -5,8 +5,8 @@ usage: rt check --generated FOLDER --old-names      in the crate's folder: FOLDE
        tools/generated_names.py CRATE FOLDER        at the top of the repository
 
 A word of those files that is no name of today is turned where exactly one name of the function, or else of the crate,
-is that word with some of its hyphens as `_`; else part by part, where it is joined by `+` or `via`. A name that the file
-itself declares goes to snake case. What is left is printed.
+is that word with some of its hyphens as `_`; else the names of the code in it are. A name that the file itself declares
+goes to snake case. What is left is printed.
 """
 import collections, glob, json, re, sys
 
@@ -38,7 +38,7 @@ def index(names):
 
 
 def parted(name, sources):
-    """A name that is joined by `via` or `+`, with the names of the code in it as the code spells them."""
+    """A name, as of a way into a join, with the names of the code in it as the code spells them."""
     for s in sources:
         name = re.sub(rf"(?<![\w']){plain(s)}(?![\w'])", s, name)
     return name
@@ -50,7 +50,7 @@ def main(crate, folder):
     words = {w for n in whole for w in n.split(".")}
     everywhere = index(words)
     code = "\n".join(open(p, encoding="utf-8").read() for p in glob.glob(f"crates/{crate}/src/*.rt"))
-    sources = sorted(set(re.findall(r"\b[A-Za-z]+(?:_\w+)+\b", code)), key=len, reverse=True)
+    sources = sorted({"in_default", "in_ok", "in_err"} | set(re.findall(r"\b[A-Za-z]+(?:_\w+)+\b", code)), key=len, reverse=True)
     left = collections.Counter()
     for path in sorted(glob.glob(f"crates/{crate}/proofs/*/**/*.antt", recursive=True)):
         text = open(path, encoding="utf-8").read()
@@ -74,7 +74,7 @@ def main(crate, folder):
                     break
             if name in declared:
                 return name.replace("-", "_")
-            if re.search(r"-via-|\+", name):
+            if parted(name, sources) != name:
                 return parted(name, sources)
             left[(path, name, tuple(sorted(to)))] += 1
             return name

@@ -8,7 +8,7 @@ loop-place-init c = (zero-add _, step c.args.list.now c.args.own c.args.stand 0 
 
 pub loop-place-preserved : goal.loop-place-preserved
 loop-place-preserved c =
-    let differs : eqb _ c.args.stand ≡ false = ne_eqb _ _ (λ e. c.if-number-at-stand.false (c.number-at.ensures ∙ e)) in
+    let differs : eqb _ c.args.stand ≡ false = ne_eqb _ _ (λ e. c.if-number_at-stand.false (c.number_at.ensures ∙ e)) in
     let on = next c.args.list.now c.args.own c.args.stand c.loop-place.place _ c.loop-place.invariant.1 (omega arith) differs in
     (on, step c.args.list.now c.args.own c.args.stand (c.loop-place.place + 1) _ on)
 

@@ -11,7 +11,7 @@ returns-in-Ok c =
     let size = (no_fault _ _ _ c.in-Ok.ensures.answer).1 in
     let same = right_paper c.in-Ok.size c.paper.new.out (paper_of (lists_of c.args.lists.now) c.args.sheet.now c.args.trader) (replicate 8169 0)
     size c.in-Ok.ensures.out in
-    c.check-like.ensures ∙ ap (λ (xs : List ℕ). unless (on_paper c.args.trader (unlike_fault c.args.given.now xs)) c.args.trader) same
+    c.check_like.ensures ∙ ap (λ (xs : List ℕ). unless (on_paper c.args.trader (unlike_fault c.args.given.now xs)) c.args.trader) same
 
 pub returns-in-Err : goal.returns-in-Err
 returns-in-Err c =

@@ -11,10 +11,10 @@ returns-in-Some c =
     let paper = c.args.paper.now in
     let ts = dearer_than (stand_on paper) (numbers c.args.stands.now) in
     let j = c.loop-j.j in
-    let all = c.byte-at-count.ensures ∙ (ap (λ m. get_or paper (8 + 2 * m) 0) c.number-at.ensures ∙ c.requires) in
+    let all = c.byte_at-count.ensures ∙ (ap (λ m. get_or paper (8 + 2 * m) 0) c.number_at.ensures ∙ c.requires) in
     let more : j < length ts = omega arith in
-    let is = c.number-at-stand.ensures ∙ dearer_is (stand_on paper) c.args.stands.now j more in
-    sym (dearer_wrong paper ts j (dearer_fault paper ts 0) c.loop-j.invariant c.number-at-stand.result more is c.in-Some.fault
+    let is = c.number_at-stand.ensures ∙ dearer_is (stand_on paper) c.args.stands.now j more in
+    sym (dearer_wrong paper ts j (dearer_fault paper ts 0) c.loop-j.invariant c.number_at-stand.result more is c.in-Some.fault
     (sym (rw (c.holder_fault.ensures, c.gone_fault.ensures) at c.in-Some.ensures)))
 
 pub loop-j-preserved : goal.loop-j-preserved
@@ -22,17 +22,17 @@ loop-j-preserved c =
     let paper = c.args.paper.now in
     let ts = dearer_than (stand_on paper) (numbers c.args.stands.now) in
     let j = c.loop-j.j in
-    let all = c.byte-at-count.ensures ∙ (ap (λ m. get_or paper (8 + 2 * m) 0) c.number-at.ensures ∙ c.requires) in
+    let all = c.byte_at-count.ensures ∙ (ap (λ m. get_or paper (8 + 2 * m) 0) c.number_at.ensures ∙ c.requires) in
     let more : j < length ts = omega arith in
-    let is = c.number-at-stand.ensures ∙ dearer_is (stand_on paper) c.args.stands.now j more in
-    dearer_on paper ts j (dearer_fault paper ts 0) c.loop-j.invariant c.number-at-stand.result more is
-    (sym (rw (c.holder_fault.ensures, c.gone_fault.ensures) at c.in-default.ensures))
+    let is = c.number_at-stand.ensures ∙ dearer_is (stand_on paper) c.args.stands.now j more in
+    dearer_on paper ts j (dearer_fault paper ts 0) c.loop-j.invariant c.number_at-stand.result more is
+    (sym (rw (c.holder_fault.ensures, c.gone_fault.ensures) at c.in_default.ensures))
 
 pub returns : goal.returns
 returns c =
     let paper = c.args.paper.now in
     let ts = dearer_than (stand_on paper) (numbers c.args.stands.now) in
-    let all = c.byte-at-count.ensures ∙ (ap (λ m. get_or paper (8 + 2 * m) 0) c.number-at.ensures ∙ c.requires) in
+    let all = c.byte_at-count.ensures ∙ (ap (λ m. get_or paper (8 + 2 * m) 0) c.number_at.ensures ∙ c.requires) in
     let done = dearer_done paper ts c.loop-j.j (dearer_fault paper ts 0) c.loop-j.invariant (omega arith) in
-    let end : c.byte-at-count.result ≡ c.loop-j.j = omega arith in
+    let end : c.byte_at-count.result ≡ c.loop-j.j = omega arith in
     c.end_fault.ensures ∙ (ap (end_fault paper) end ∙ sym done)

@@ -8,12 +8,12 @@ loop-k-init c = let e : c.args.n - 0 ≡ c.args.n = omega arith in rw e (omega a
 pub returns-then-at-trader : goal.returns-then-at-trader
 returns-then-at-trader c =
     let one : c.args.n - c.loop-k.k ≡ c.args.n - (c.loop-k.k + 1) + 1 = omega arith in
-    sym (ring_back c.args.sheet.now c.args.trader c.loop-k.k _ c.loop-k.at _ _ c.loop-k.invariant c.stand-in-at.ensures _ one c.if-at-trader.true)
+    sym (ring_back c.args.sheet.now c.args.trader c.loop-k.k _ c.loop-k.at _ _ c.loop-k.invariant c.stand_in-at.ensures _ one c.if-at-trader.true)
 
 pub loop-k-preserved : goal.loop-k-preserved
 loop-k-preserved c =
     let one : c.args.n - c.loop-k.k ≡ c.args.n - (c.loop-k.k + 1) + 1 = omega arith in
-    ring_goes_on c.args.sheet.now c.args.trader c.loop-k.k _ c.loop-k.at _ _ c.loop-k.invariant c.stand-in-at.ensures _ one c.if-at-trader.false
+    ring_goes_on c.args.sheet.now c.args.trader c.loop-k.k _ c.loop-k.at _ _ c.loop-k.invariant c.stand_in-at.ensures _ one c.if-at-trader.false
 
 pub returns : goal.returns
 returns c =

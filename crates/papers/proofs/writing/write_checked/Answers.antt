@@ -10,11 +10,11 @@ returns-in-Some c = record {
   out = refl;
 }
 
-pub write-for-requires : goal.write-for-requires
-write-for-requires c =
+pub write_for-requires : goal.write_for-requires
+write_for-requires c =
     let bs = c.args.bytes.now in
-    let is : c.list-at-stands.result.now ≡ list_bytes bs (start bs c.args.trader) = c.list-at-stands.ensures ∙ ap (list_bytes bs) c.start-of.ensures in
-    list_few bs c.args.sheet.now c.requires.accepted c.args.n c.requires.traders c.args.trader (sym c.in-default.ensures) c.list-at-stands.result.now is
+    let is : c.list_at-stands.result.now ≡ list_bytes bs (start bs c.args.trader) = c.list_at-stands.ensures ∙ ap (list_bytes bs) c.start_of.ensures in
+    list_few bs c.args.sheet.now c.requires.accepted c.args.n c.requires.traders c.args.trader (sym c.in_default.ensures) c.list_at-stands.result.now is
 
 pub returns : goal.returns
 returns c =
@@ -22,12 +22,12 @@ returns c =
     let sheet = c.args.sheet.now in
     let n = c.args.n in
     let i = c.args.trader in
-    let known = sym c.in-default.ensures in
-    let stands = c.list-at-stands.result.now in
-    let is : c.list-at-stands.result.now ≡ list_bytes bs (start bs c.args.trader) = c.list-at-stands.ensures ∙ ap (list_bytes bs) c.start-of.ensures in
+    let known = sym c.in_default.ensures in
+    let stands = c.list_at-stands.result.now in
+    let is : c.list_at-stands.result.now ≡ list_bytes bs (start bs c.args.trader) = c.list_at-stands.ensures ∙ ap (list_bytes bs) c.start_of.ensures in
     record {
-      answer = c.write-for.ensures.answer ∙ same_answer bs sheet c.requires.accepted n c.requires.traders i known stands is (length c.args.out.now);
+      answer = c.write_for.ensures.answer ∙ same_answer bs sheet c.requires.accepted n c.requires.traders i known stands is (length c.args.out.now);
       out =
-          c.write-for.ensures.out
-          ∙ ap (λ (P : List ℕ). left_by c.write-for.result P c.args.out.now) (same_paper bs sheet c.requires.accepted n c.requires.traders i known stands is);
+          c.write_for.ensures.out
+          ∙ ap (λ (P : List ℕ). left_by c.write_for.result P c.args.out.now) (same_paper bs sheet c.requires.accepted n c.requires.traders i known stands is);
     }

@@ -17,8 +17,8 @@ loop-j-preserved c =
     let j = c.loop-j.j in
     let more : j < length ts = omega (arith, c.requires.dearer) in
     let room : c.args.at + 4 * j ≤ length c.args.out.now = omega (arith, c.requires.room) in
-    let t = c.number-at-holder.result in
-    let is = c.number-at-holder.ensures ∙ dearer_is c.args.stand c.args.stands.now j more in
+    let t = c.number_at-holder.result in
+    let is = c.number_at-holder.ensures ∙ dearer_is c.args.stand c.args.stands.now j more in
     let first = c.put.ensures ∙ ap (written (c.args.at + 4 * j) (bytes_of t)) c.loop-j.invariant in
     let both = c.put-in-loop-j.ensures ∙ rw c.round_in.ensures (ap (written (c.args.at + 4 * j + 2) (bytes_of (round_in c.args.sheet.now t))) first) in
     both ∙ gone_written c.args.sheet.now c.args.at j t ts c.args.out.now more is room

@@ -19,7 +19,7 @@ loop-k-preserved c =
     let more : k < length ring = omega (arith, c.requires.0) in
     let is = c.loop-k.invariant.0 ∙ sym (ring_steps sheet c.args.trader c.args.n c.args.trader k more) in
     let put = c.put.ensures ∙ ap (written (8 + 2 * k) (bytes_of c.loop-k.at)) c.loop-k.invariant.1 in (
-      rw add-one (c.stand-in-at.ensures ∙ ap (stand_in sheet) c.loop-k.invariant.0),
+      rw add-one (c.stand_in-at.ensures ∙ ap (stand_in sheet) c.loop-k.invariant.0),
       put ∙ member_written 8 k c.loop-k.at ring c.args.out.now more is (omega (arith, c.requires.1)),
     )
 

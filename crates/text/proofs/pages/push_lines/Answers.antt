@@ -10,14 +10,14 @@ loop-j-init c = rw append-nil
 
 pub loop-j-preserved : goal.loop-j-preserved
 loop-j-preserved c =
-    lines_more c.args.paper.now c.loop-j.j c.number-at-holder.result c.number-at-round.result (string_bytes c.args.text.now)
-    (string_bytes c.loop-j.text) (string_bytes c.push-gone.new.text)
-    (c.number-at-holder.ensures ∙ holder_there c.args.paper.now c.args.members c.loop-j.j c.requires)
-    (c.number-at-round.ensures ∙ gone_there c.args.paper.now c.args.members c.loop-j.j c.requires)
-    c.loop-j.invariant c.in-ok-push-gone.ensures
+    lines_more c.args.paper.now c.loop-j.j c.number_at-holder.result c.number_at-round.result (string_bytes c.args.text.now)
+    (string_bytes c.loop-j.text) (string_bytes c.push_gone.new.text)
+    (c.number_at-holder.ensures ∙ holder_there c.args.paper.now c.args.members c.loop-j.j c.requires)
+    (c.number_at-round.ensures ∙ gone_there c.args.paper.now c.args.members c.loop-j.j c.requires)
+    c.loop-j.invariant c.in_ok-push_gone.ensures
 
 pub returns : goal.returns
 returns c =
-    let count : c.byte-at-j-end.result ≡ count_on c.args.paper.now = c.byte-at-j-end.ensures ∙ count_there c.args.paper.now c.args.members c.requires in
+    let count : c.byte_at-j-end.result ≡ count_on c.args.paper.now = c.byte_at-j-end.ensures ∙ count_there c.args.paper.now c.args.members c.requires in
     let all : c.loop-j.j ≡ count_on c.args.paper.now = omega arith in
     c.loop-j.invariant ∙ ap (λ j. string_bytes c.args.text.now ++ gone_lines c.args.paper.now j) all

@@ -4,7 +4,7 @@ use Rattle.text.proofs.pages.push_page.Goals as goal
 
 pub returns : goal.returns
 returns c =
-    page_joined c.args.paper.now c.number-at-own.result c.number-at.result c.number-at-2.result (string_bytes c.args.text.now)
-    (string_bytes c.push-head.new.text) (string_bytes c.push-ring.new.text) (string_bytes c.push-lines.new.text)
-    c.number-at-own.ensures c.number-at.ensures c.number-at-2.ensures c.in-ok-push-head.ensures
-    c.in-ok-push-ring.ensures c.in-ok-push-lines.ensures
+    page_joined c.args.paper.now c.number_at-own.result c.number_at.result c.number_at-2.result (string_bytes c.args.text.now)
+    (string_bytes c.push_head.new.text) (string_bytes c.push_ring.new.text) (string_bytes c.push_lines.new.text)
+    c.number_at-own.ensures c.number_at.ensures c.number_at-2.ensures c.in_ok-push_head.ensures
+    c.in_ok-push_ring.ensures c.in_ok-push_lines.ensures

@@ -6,9 +6,9 @@ use Rattle.text.proofs.report.push_head.Goals as goal
 
 pub returns : goal.returns
 returns c =
-    pushed c.push-str.result (string_bytes c.push-word-2.new.text) (string_bytes c.push-str.new.self) newline
-    (string_bytes c.args.text.now ++ head_of c.args.rounds c.args.results.now) c.push-str.ensures.bytes
-    (head_joined (string_bytes c.args.text.now) c.args.rounds c.args.results.now (string_bytes c.push-word.new.text)
-    (string_bytes c.push-word-2.new.text) c.in-ok-push-word.ensures
-    (c.in-ok-push-word-2.ensures ∙
-    ap (λ m. string_bytes c.push-word.new.text ++ (codes " moved " ++ decimal m)) c.moved.ensures))
+    pushed c.push_str.result (string_bytes c.push_word-2.new.text) (string_bytes c.push_str.new.self) newline
+    (string_bytes c.args.text.now ++ head_of c.args.rounds c.args.results.now) c.push_str.ensures.bytes
+    (head_joined (string_bytes c.args.text.now) c.args.rounds c.args.results.now (string_bytes c.push_word.new.text)
+    (string_bytes c.push_word-2.new.text) c.in_ok-push_word.ensures
+    (c.in_ok-push_word-2.ensures ∙
+    ap (λ m. string_bytes c.push_word.new.text ++ (codes " moved " ++ decimal m)) c.moved.ensures))

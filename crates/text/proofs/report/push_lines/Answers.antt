@@ -9,8 +9,8 @@ loop-trader-init c = rw append-nil
 
 pub loop-trader-preserved : goal.loop-trader-preserved
 loop-trader-preserved c =
-    lines_more (string_bytes c.args.text.now) c.args.results.now (string_bytes c.loop-trader.text) (string_bytes c.push-line.new.text)
-    c.loop-trader.trader (c.loop-trader.trader + 1) (add-one c.loop-trader.trader) c.loop-trader.invariant c.in-ok-push-line.ensures
+    lines_more (string_bytes c.args.text.now) c.args.results.now (string_bytes c.loop-trader.text) (string_bytes c.push_line.new.text)
+    c.loop-trader.trader (c.loop-trader.trader + 1) (add-one c.loop-trader.trader) c.loop-trader.invariant c.in_ok-push_line.ensures
 
 pub returns : goal.returns
 returns c = λ xs ys e.
