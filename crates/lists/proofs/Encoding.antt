@@ -6,7 +6,7 @@ use Rattle.std.proofs.lemmas.Bool.{and_from, le-ltb, lt-ltb}
 use Rattle.theory.specs.Promise.{Distinct, Proper}
 use Rattle.theory.specs.Trade.{Lists}
 use Rattle.lists.proofs.Faults.{may_list}
-use Rattle.lists.specs.Format.{number_at, numbers, list_bytes, next_start, lists_from, lists_of, list_fault, lists_fault, fault, Encodable, bytes_of, encode_stands, encode_lists, encode, ReadsWhatWasWritten, WritesWhatWasRead}
+use Rattle.lists.specs.Format.{number_at, numbers, list_bytes, next_start, lists_from, lists_of, list_fault, lists_fault, Encodable, bytes_of, encode_stands, encode_lists, encode, ReadsWhatWasWritten, WritesWhatWasRead}
 use Rattle.lists.proofs.Faults.{listable}
 use Rattle.lists.proofs.Positions.{numbers_from, two_bytes, numbers_are, count_of_lists}
 use Rattle.lists.proofs.Accepted.{all_may, may_more, Good, good_list, list_good, good_numbers, good_length, good_end, no_fault_both, two_there, lists_good, accepted_encodable}

@@ -1,11 +1,11 @@
 -- Where `next` says to whom each trader who is in points, the rings of `next` are the rings of the exchange.
-use Rattle.std.proofs.Common.{◌≡◌, ℕ, zero, suc, ◌*◌, ◌<◌, ◌≤◌, true, false, cond, eqb, ltb, List, [], ◌∷◌, length, get_or, Ok, sym, refl, ap, ◌∙◌, inl, inr, arith}
-use Rattle.std.proofs.lemmas.List.{get_or_past, get_or_default}
+use Rattle.std.proofs.Common.{◌≡◌, ℕ, zero, suc, ◌*◌, ◌<◌, ◌≤◌, true, false, cond, eqb, ltb, List, length, get_or, Ok, refl, ap, ◌∙◌, inl, inr, arith}
+use Rattle.std.proofs.lemmas.List.{get_or_default}
 use Rattle.std.proofs.lemmas.List.FromFn.{get_or-map-range_with_len, length-map-range_with_len}
-use Rattle.std.proofs.lemmas.Bool.{cases_Bool, cases_lt, lt-ltb, le-ltb, ne_eqb, both_ways}
+use Rattle.std.proofs.lemmas.Bool.{cases_Bool, lt-ltb, le-ltb, ne_eqb}
 use Rattle.theory.proofs.Ranks.{points_in}
 use Rattle.theory.proofs.Walks.{in_below}
-use Rattle.theory.specs.Trade.{Lists, Standing, is_in, first_in, points, walk, comes_back, on_ring}
+use Rattle.theory.specs.Trade.{Lists, Standing, is_in, points, walk, comes_back, on_ring}
 use Rattle.rings.specs.Ring.{step, walk_along, back, on_ring_of, flag, ring_flags, answer}
 
 -- `next` says to whom each trader who is in points

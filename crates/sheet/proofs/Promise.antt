@@ -1,5 +1,5 @@
 -- The promise of the public exchange, from the theory of the exchange and from what was written.
-use Rattle.std.proofs.Common.{◌≡◌, ℕ, zero, suc, ◌+◌, ◌-◌, ◌*◌, ◌<◌, ◌≤◌, List, [], ◌++◌, length, get_or, drop, set, replicate, None, Err, Result, sym, refl, ap, ◌∙◌, append_assoc, arith, length-append}
+use Rattle.std.proofs.Common.{◌≡◌, ℕ, zero, suc, ◌+◌, ◌*◌, ◌<◌, ◌≤◌, List, [], ◌++◌, length, get_or, drop, set, replicate, None, Err, Result, sym, refl, ap, ◌∙◌, append_assoc, arith, length-append}
 use Rattle.std.specs.List.{range_with_len, flat_map}
 use Rattle.refusals.specs.declared.Refusal.{Refusal}
 use Rattle.rounds.specs.declared.running.Exchanged.{Exchanged}

@@ -1,6 +1,6 @@
 -- The exchange by top trading rings: n traders, numbered from 0, of whom trader i holds stand i at first.
 -- Everything here is a definition; nothing is assumed.
-use Rattle.std.specs.Prelude.{◌≡◌, ℕ, zero, suc, Bool, true, false, cond, ◌&&◌, List, [], ◌∷◌, length, replicate, ◌==◌, slice_index, slice_index_or}
+use Rattle.std.specs.Prelude.{ℕ, zero, suc, Bool, true, false, cond, ◌&&◌, List, [], ◌∷◌, length, replicate, ◌==◌, slice_index, slice_index_or}
 
 -- A list names the stands that are dearer to a trader than the own one, the dearest first. The own stand comes after the
 -- last one listed, and a stand that is not listed is less dear than the own one. A year has one list for each trader.

@@ -1,5 +1,4 @@
 use Rattle.std.proofs.Common.{◌≡◌, ◌*◌, length, refl, ap, ◌∙◌, arith}
-use Rattle.lists.specs.Format.{number_at}
 use Rattle.papers.specs.Paper.{round_on, stand_on}
 use Rattle.sheet.proofs.Writing.{put_there}
 use Rattle.agreement.specs.Agreement.{nth_paper, paper_at, sheet_on}

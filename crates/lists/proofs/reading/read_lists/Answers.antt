@@ -1,6 +1,6 @@
-use Rattle.std.proofs.Common.{◌≡◌, ◌+◌, ◌-◌, ◌<◌, ◌≤◌, length, sym, refl, ap, ◌∙◌, arith}
+use Rattle.std.proofs.Common.{◌≡◌, ◌+◌, ◌-◌, ◌<◌, refl, ◌∙◌, arith}
 use Rattle.std.proofs.lemmas.Result.{err_from_is_err_and}
-use Rattle.lists.specs.Format.{list_fault, lists_fault, next_start}
+use Rattle.lists.specs.Format.{next_start}
 use Rattle.lists.proofs.Faults.{lists_wrong, lists_next, lists_done, long_wrong, list_right, refused_fault, no_fault, no_marks}
 use Rattle.lists.proofs.reading.read_lists.Goals as goal
 

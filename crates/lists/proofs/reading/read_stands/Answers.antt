@@ -1,6 +1,6 @@
-use Rattle.std.proofs.Common.{◌≡◌, ℕ, ◌+◌, ◌-◌, ◌*◌, ◌<◌, ◌≤◌, List, [], ◌∷◌, length, get_or, Ok, sym, ap, ◌∙◌, arith}
+use Rattle.std.proofs.Common.{◌≡◌, ◌+◌, ◌-◌, ◌<◌, ◌∷◌, length, Ok, ap, ◌∙◌, arith}
 use Rattle.std.proofs.lemmas.Result.{err_from_is_err_and}
-use Rattle.lists.specs.Format.{number_at, stand_fault, stands_fault}
+use Rattle.lists.specs.Format.{number_at}
 use Rattle.lists.proofs.Faults.{stands_wrong, stands_next, stands_none, stand_below, refused_fault, no_fault, marks_more, marks_bound}
 use Rattle.lists.proofs.reading.read_stands.Goals as goal
 

@@ -3,7 +3,7 @@ use Rattle.std.proofs.Common.{◌≡◌, ℕ, suc, ◌+◌, ◌*◌, ◌<◌, �
 use Rattle.std.proofs.lemmas.List.{get_or_append_left, get_or-replicate, length-replicate}
 use Rattle.std.proofs.lemmas.Slice.{drop-append-drop}
 use Rattle.lists.specs.Format.{lists_of}
-use Rattle.theory.specs.Trade.{rounds, round_count}
+use Rattle.theory.specs.Trade.{round_count}
 use Rattle.lists.proofs.Positions.{count_of_lists}
 use Rattle.lists.proofs.Accepted.{some_traders}
 use Rattle.theory.proofs.Exchange.{some_in_bound}
