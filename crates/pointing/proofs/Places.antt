@@ -50,7 +50,7 @@ exchange_points s (t ∷ ts) own p =
     let h = holder_is s.inside t in
     elim (cases_Bool (eqb (get_or s.inside t 0) 1)) [ inl e ↦ rw (h, e) | inr e ↦ rw (h, e) (exchange_points s ts own (suc p)) ]
 
--- the same as `Is-first`, with the places counted from `from` on
+-- the same as `IsFirst`, with the places counted from `from` on
 abbrev FirstFrom : Standing → List ℕ → ℕ → Pointing → Type 0
 FirstFrom s ts from (Listed p t) = (j : ℕ) × (p ≡ from + j) × FirstAt s ts j t
 FirstFrom s ts from Own = (k : ℕ) → k < length ts → is_in s (get_or ts k 0) ≡ false
