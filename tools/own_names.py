@@ -69,8 +69,7 @@ def main():
     fall = [f"{c}: {sorted(olds)} would be {new}" for c in said for new, olds in said[c].items() if len(olds) > 1 or new in plain[c]]
     if fall:
         print("names fall together:\n" + "\n".join(fall))
-        if "--anyway" not in sys.argv:
-            return 1
+        return 1
     for p in files:
         if out[p] != files[p]:
             open(p, "w", encoding="utf-8").write(out[p])
