@@ -1,8 +1,9 @@
 -- The papers of an accepted sheet are accepted.
 use Rattle.std.proofs.Common.{◌≡◌, ℕ, zero, suc, ◌+◌, ◌<◌, ◌≤◌, cond, eqb, List, [], ◌∷◌, length, get_or, Some, None, Option, sym, refl, ap, ◌∙◌, arith}
 use Rattle.std.proofs.lemmas.Bool.{eq-eqb, le-ltb}
+use Rattle.std.specs.Option.{option_or}
 use Rattle.refusals.specs.declared.Refusal.TheVariants.{PaperFault}
-use Rattle.lists.specs.Format.{end_fault, fault, lists_of, number_at, or_else, start}
+use Rattle.lists.specs.Format.{end_fault, fault, lists_of, number_at, start}
 use Rattle.lists.proofs.Accepted.{accepted_encodable, no_fault_both}
 use Rattle.lists.proofs.Positions.{count_of_lists}
 use Rattle.sheet.specs.Sheet as sheets
@@ -15,7 +16,7 @@ use Rattle.papers.specs.Trust.{OwnListsStandThere, PapersPass, own_list}
 use Rattle.papers.proofs.Fields.{own_written}
 use Rattle.papers.proofs.Passes.{own_lists_stand_there, papers_pass}
 use Rattle.agreement.specs.declared.Fault.{Fault}
-use Rattle.agreement.specs.Agreement.{PapersOfASheetAgree, PapersOfTheExchangeAgree, agree_fault, all_papers, at_field, difference, first_fault, list_at, nth_paper, on_paper, or_first, own_fault, paper_start, papers_fault, place_fault, refused, sheet_fault, sheet_on, unlike_fault}
+use Rattle.agreement.specs.Agreement.{PapersOfASheetAgree, PapersOfTheExchangeAgree, agree_fault, all_papers, at_field, difference, first_fault, list_at, nth_paper, on_paper, own_fault, paper_start, papers_fault, place_fault, refused, sheet_fault, sheet_on, unlike_fault}
 use Rattle.agreement.proofs.Rows.{last_ends, nth_is, sheet_made}
 
 -- ---- where there is no fault
@@ -31,11 +32,11 @@ none_found : (of : ℕ → Option Fault) (i k : ℕ) → ((j : ℕ) → i ≤ j 
 unfolding first_fault
 none_found of i zero none = refl
 none_found of i (suc k) none =
-    ap (λ o. or_first o (first_fault of (suc i) k)) (none i (omega arith) (omega arith))
+    ap (λ o. option_or o (first_fault of (suc i) k)) (none i (omega arith) (omega arith))
     ∙ none_found of (suc i) k (λ j low high. none j (omega arith) (omega arith))
 
-none_of_two : (a b : Option Fault) → a ≡ None → b ≡ None → or_first a b ≡ None
-none_of_two a b p q = ap (λ o. or_first o b) p ∙ q
+none_of_two : (a b : Option Fault) → a ≡ None → b ≡ None → option_or a b ≡ None
+none_of_two a b p q = ap (λ o. option_or o b) p ∙ q
 
 no_more : (ps : List ℕ) (q : ℕ) → length ps ≤ q → end_fault ps q ≡ None
 no_more ps q end = rw (le-ltb q (length ps) end)
@@ -44,7 +45,7 @@ no_more ps q end = rw (le-ltb q (length ps) end)
 
 own_none : (list paper : List ℕ) (i : ℕ) → paper_check_fault list paper ≡ None → own_on paper ≡ i → own_fault list paper i ≡ None
 own_none list paper i passes own =
-    ap (λ o. or_else o (cond (eqb (own_on paper) i) None (Some (PaperFault 0)))) passes ∙ ap (λ b. cond b None (Some (PaperFault 0))) (eq-eqb (own_on paper) i own)
+    ap (λ o. option_or o (cond (eqb (own_on paper) i) None (Some (PaperFault 0)))) passes ∙ ap (λ b. cond b None (Some (PaperFault 0))) (eq-eqb (own_on paper) i own)
 
 place_none : (bs ps list paper : List ℕ) (i : ℕ) → list_at bs (start bs i) ≡ list → nth_paper ps i ≡ paper → own_fault list paper i ≡ None →
     place_fault bs ps i ≡ None
@@ -83,14 +84,14 @@ module _ (bs sheet : List ℕ) (bytes : (k : ℕ) → k < length bs → get_or b
   made = ap (sheet_on ps) (sym (count_of_lists bs)) ∙ sheet_made (lists_of bs) sheet (accepted_valid (lists_of bs) sheet right).0 also
 
   checked_none : check_fault bs sheet ≡ None
-  checked_none = ap (λ o. or_else o (sheets.sheet_fault (lists_of bs) sheet)) accepted ∙ right
+  checked_none = ap (λ o. option_or o (sheets.sheet_fault (lists_of bs) sheet)) accepted ∙ right
 
   beside_none : (i : ℕ) → i < number_at bs 0 → agree_fault bs ps sheet i ≡ None
   beside_none i h = ap (on_paper i) (unlike_none (nth_paper ps i) (paper_of (lists_of bs) sheet i) (nth i h))
 
   together_none : sheet_fault bs ps (number_at bs 0) ≡ None
   together_none =
-      ap (λ xs. or_first (refused (check_fault bs xs)) (first_fault (agree_fault bs ps xs) 0 (number_at bs 0))) made
+      ap (λ xs. option_or (refused (check_fault bs xs)) (first_fault (agree_fault bs ps xs) 0 (number_at bs 0))) made
       ∙ none_of_two (refused (check_fault bs sheet)) (first_fault (agree_fault bs ps sheet) 0 (number_at bs 0)) (ap refused checked_none)
       (none_found (agree_fault bs ps sheet) 0 (number_at bs 0) (λ j low high. beside_none j (omega arith)))
 
@@ -99,9 +100,9 @@ module _ (bs sheet : List ℕ) (bytes : (k : ℕ) → k < length bs → get_or b
       let n = number_at bs 0 in
       let each = none_found (place_fault bs ps) 0 (number_at bs 0) (λ j low high. each_none j (omega arith)) in
       none_of_two (refused (fault bs))
-      (or_first (first_fault (place_fault bs ps) 0 n) (or_first (refused (end_fault ps (paper_start ps n))) (sheet_fault bs ps n)))
+      (option_or (first_fault (place_fault bs ps) 0 n) (option_or (refused (end_fault ps (paper_start ps n))) (sheet_fault bs ps n)))
       (ap refused accepted)
-      (none_of_two (first_fault (place_fault bs ps) 0 n) (or_first (refused (end_fault ps (paper_start ps n))) (sheet_fault bs ps n)) each
+      (none_of_two (first_fault (place_fault bs ps) 0 n) (option_or (refused (end_fault ps (paper_start ps n))) (sheet_fault bs ps n)) each
       (none_of_two (refused (end_fault ps (paper_start ps n))) (sheet_fault bs ps n) end_none together_none))
 
 pub papers_of_a_sheet_agree : PapersOfASheetAgree

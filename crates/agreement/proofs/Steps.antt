@@ -1,9 +1,11 @@
 -- How the first fault of the traders is found, one after another.
+use Rattle.lists.specs.Format.{unless}
 use Rattle.std.proofs.Common.{◌≡◌, ℕ, zero, suc, ◌+◌, ◌<◌, ◌≤◌, Some, None, Ok, Err, Option, Result, sym, refl, ◌∙◌, inl, inr, arith}
 use Rattle.std.proofs.lemmas.Bool.{cases_eq}
+use Rattle.std.specs.Option.{option_or}
 use Rattle.refusals.specs.declared.Refusal.{Refusal}
 use Rattle.agreement.specs.declared.Fault.{Fault}
-use Rattle.agreement.specs.Agreement.{first_fault, on_paper, or_first, refused, unless}
+use Rattle.agreement.specs.Agreement.{first_fault, on_paper, refused}
 
 -- what a call that is refused, or hands on a value, says of the fault
 pub refused_by : {A : Type 0} (o : Option Fault) (a : A) (f : Fault) → ◌≡◌ {A = Result A Fault} (Err f) (unless o a) → o ≡ Some f
@@ -15,7 +17,7 @@ accepted_by (Some g) a b e = absurd (let z : ◌≡◌ {A = ℕ} 0 1 = cc in ome
 accepted_by None a b e = (refl, cc)
 
 -- no fault in either of two, on a paper, or anywhere
-pub neither : (a b : Option Fault) → or_first a b ≡ None → (a ≡ None) × (b ≡ None)
+pub neither : (a b : Option Fault) → option_or a b ≡ None → (a ≡ None) × (b ≡ None)
 neither (Some f) b e = absurd (let z : ◌≡◌ {A = ℕ} 0 1 = cc in omega arith)
 neither None b e = (refl, e)
 

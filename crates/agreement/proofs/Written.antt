@@ -2,9 +2,10 @@
 use Rattle.std.proofs.Common.{◌≡◌, ℕ, zero, suc, ◌<◌, ◌≤◌, eqb, List, [], ◌++◌, length, get_or, take, drop, None, Err, Option, Result, sym, ap, ◌∙◌, inl, inr, arith}
 use Rattle.std.proofs.lemmas.List.{take_at}
 use Rattle.std.proofs.lemmas.Bool.{cases_Bool, le-ltb, lt-ltb}
+use Rattle.std.specs.Option.{option_or}
 use Rattle.refusals.specs.declared.Refusal.{Refusal}
 use Rattle.lists.specs.Format as format
-use Rattle.lists.specs.Format.{fault, lists_of, number_at, or_else}
+use Rattle.lists.specs.Format.{fault, lists_of, number_at, unless}
 use Rattle.lists.proofs.Accepted.{accepted_encodable, no_fault_both}
 use Rattle.lists.proofs.Faults.{refused_fault}
 use Rattle.lists.proofs.Positions.{count_of_lists}
@@ -39,10 +40,10 @@ paper_fits bs sheet i ok h =
     let short = paper_short sheet (length (lists_of bs)) i (get_or (lists_of bs) i []) enc.most (enc.short i below) in
     let room : room_fault 8169 (paper_of (lists_of bs) sheet i) ≡ None = rw (le-ltb 8169 (length (paper_of (lists_of bs) sheet i)) short) in
     let known : trader_fault (number_at bs 0) i ≡ None = rw (lt-ltb i (number_at bs 0) h) in
-    ap (λ o. or_else o (or_else (trader_fault (number_at bs 0) i) (room_fault 8169 paper))) ok ∙ (ap (λ o. or_else o (room_fault 8169 paper)) known ∙ room)
+    ap (λ o. option_or o (option_or (trader_fault (number_at bs 0) i) (room_fault 8169 paper))) ok ∙ (ap (λ o. option_or o (room_fault 8169 paper)) known ∙ room)
 
 -- so a paper is written
-pub never_refused : {A : Type 0} (o : Option Refusal) (a : A) (f : Refusal) → o ≡ None → ◌≡◌ {A = Result A Refusal} (Err f) (format.unless o a) → ⊥
+pub never_refused : {A : Type 0} (o : Option Refusal) (a : A) (f : Refusal) → o ≡ None → ◌≡◌ {A = Result A Refusal} (Err f) (unless o a) → ⊥
 never_refused o a f none e = let some = refused_fault o a f e in let z : ◌≡◌ {A = ℕ} 0 1 = cc in omega arith
 
 pub right_paper : (size : ℕ) (out paper before : List ℕ) → size ≡ length paper → out ≡ paper ++ drop size before → take size out ≡ paper

@@ -1,9 +1,10 @@
 -- The papers of all traders, one after another in the order of their numbers: each passes with its trader's list, and all are
 -- papers of one sheet, which is valid for the lists.
 use Rattle.std.specs.Prelude.{◌≡◌, ℕ, zero, suc, ◌+◌, ◌*◌, ◌/◌, ◌<◌, cond, List, [], ◌∷◌, ◌++◌, length, take, drop, Some, None, Ok, Err, Option, Result, ◌==◌, nat_lt, slice_index}
+use Rattle.std.specs.Option.{option_or}
 use Rattle.refusals.specs.declared.Refusal.{Refusal}
 use Rattle.refusals.specs.declared.Refusal.TheVariants.{PaperFault}
-use Rattle.lists.specs.Format.{bytes_of, end_fault, fault, lists_of, number_at, or_else, start}
+use Rattle.lists.specs.Format.{bytes_of, end_fault, fault, lists_of, number_at, start}
 use Rattle.theory.specs.Trade.{Lists, result}
 use Rattle.sheet.specs.Sheet.{Valid, check_fault, sheet_of}
 use Rattle.papers.specs.Faults.{paper_check_fault}
@@ -32,11 +33,6 @@ list_at bs p = take (1 + 2 * slice_index bs p) (drop p bs)
 
 -- ---- faults
 
--- the earlier of two faults, where both are looked for
-abbrev pub or_first : Option Fault → Option Fault → Option Fault
-or_first (Some f) later = Some f
-or_first None later = later
-
 -- a fault of the lists, of all the papers' bytes or of the sheet that they make
 abbrev pub refused : Option Refusal → Option Fault
 refused (Some f) = Some (Refused f)
@@ -50,13 +46,13 @@ on_paper i None = None
 -- the first fault of k traders from trader i on, of whom `of` says each one's
 unfoldable pub first_fault : (ℕ → Option Fault) → ℕ → ℕ → Option Fault
 first_fault of i zero = None
-first_fault of i (suc k) = or_first (of i) (first_fault of (suc i) k)
+first_fault of i (suc k) = option_or (of i) (first_fault of (suc i) k)
 
 -- ---- each paper by itself
 
 -- the paper passes with the list, and it is trader i's
 abbrev pub own_fault : List ℕ → List ℕ → ℕ → Option Refusal
-own_fault list paper i = or_else (paper_check_fault list paper) (cond (own_on paper == i) None (Some (PaperFault 0)))
+own_fault list paper i = option_or (paper_check_fault list paper) (cond (own_on paper == i) None (Some (PaperFault 0)))
 
 abbrev pub place_fault : List ℕ → List ℕ → ℕ → Option Fault
 place_fault bs ps i = on_paper i (own_fault (list_at bs (start bs i)) (nth_paper ps i) i)
@@ -98,20 +94,15 @@ agree_fault bs ps sheet i = on_paper i (unlike_fault (nth_paper ps i) (paper_of 
 
 -- the first fault of the sheet that the papers of n traders make, and then of each paper beside that of the sheet
 abbrev pub sheet_fault : List ℕ → List ℕ → ℕ → Option Fault
-sheet_fault bs ps n = or_first (refused (check_fault bs (sheet_on ps n))) (first_fault (agree_fault bs ps (sheet_on ps n)) 0 n)
+sheet_fault bs ps n = option_or (refused (check_fault bs (sheet_on ps n))) (first_fault (agree_fault bs ps (sheet_on ps n)) 0 n)
 
 -- The first fault of the lists of a year and of the papers for it: of the lists; trader after trader, of each paper by itself; of
 -- what follows the last; of the sheet that they make; trader after trader, of each paper beside that of the sheet.
 abbrev pub papers_fault : List ℕ → List ℕ → Option Fault
 papers_fault bs ps =
-    or_first (refused (fault bs))
-    (or_first (first_fault (place_fault bs ps) 0 (number_at bs 0))
-    (or_first (refused (end_fault ps (paper_start ps (number_at bs 0)))) (sheet_fault bs ps (number_at bs 0))))
-
--- the answer of a call that is refused by a fault, if there is one
-abbrev pub unless : {A : Type 0} → Option Fault → A → Result A Fault
-unless (Some f) a = Err f
-unless None a = Ok a
+    option_or (refused (fault bs))
+    (option_or (first_fault (place_fault bs ps) 0 (number_at bs 0))
+    (option_or (refused (end_fault ps (paper_start ps (number_at bs 0)))) (sheet_fault bs ps (number_at bs 0))))
 
 -- ---- what accepted papers say
 

@@ -1,7 +1,7 @@
 // Each paper by itself, in its trader's place.
 ghost use Rattle.std.specs.Prelude.{◌≡◌, ◌≤◌, length, None};
-ghost use Rattle.lists.specs.Format.{fault, next_start, number_at};
-ghost use Rattle.agreement.specs.Agreement.{first_fault, list_at, on_paper, own_fault, paper_at, paper_start, place_fault, unless};
+ghost use Rattle.lists.specs.Format.{fault, next_start, number_at, unless};
+ghost use Rattle.agreement.specs.Agreement.{first_fault, list_at, on_paper, own_fault, paper_at, paper_start, place_fault};
 
 use crate::Fault;
 use papers::checking::check_paper;

@@ -2,8 +2,8 @@
 #![tactic(auto)]
 
 ghost use Rattle.std.specs.Prelude.{◌≡◌};
-ghost use Rattle.lists.specs.Format.{end_fault, fault, number_at};
-ghost use Rattle.agreement.specs.Agreement.{AgreedBy, papers_fault, refused, unless};
+ghost use Rattle.lists.specs.Format.{end_fault, fault, number_at, unless};
+ghost use Rattle.agreement.specs.Agreement.{AgreedBy, papers_fault, refused};
 
 mod each;
 pub mod theorems;

@@ -2,15 +2,11 @@
 ghost use Rattle.agreement.specs.Agreement.{PapersOfASheetAgree, PapersOfTheExchangeAgree};
 
 // The papers of all traders, written from an accepted sheet, are accepted together.
-pub fn papers_of_a_sheet_agree() -> u8
+pub fn papers_of_a_sheet_agree()
     ensures { PapersOfASheetAgree }
-{
-    0
-}
+{}
 
 // So are those of the exchange.
-pub fn papers_of_the_exchange_agree() -> u8
+pub fn papers_of_the_exchange_agree()
     ensures { PapersOfTheExchangeAgree }
-{
-    0
-}
+{}

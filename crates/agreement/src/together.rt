@@ -1,9 +1,9 @@
 // All papers beside the one sheet that their stands and rounds make.
 ghost use Rattle.std.specs.Prelude.{◌≡◌, ◌+◌, ◌*◌, ◌<◌, ◌≤◌, ◌++◌, length, drop, None};
-ghost use Rattle.lists.specs.Format.{fault, lists_of, number_at};
+ghost use Rattle.lists.specs.Format.{fault, lists_of, number_at, unless};
 ghost use Rattle.sheet.specs.Sheet.{check_fault};
 ghost use Rattle.papers.specs.Paper.{paper_of};
-ghost use Rattle.agreement.specs.Agreement.{AgreedBy, agree_fault, difference, field_at, first_fault, on_paper, refused, sheet_fault, sheet_on, unless, unlike_fault};
+ghost use Rattle.agreement.specs.Agreement.{AgreedBy, agree_fault, difference, field_at, first_fault, on_paper, refused, sheet_fault, sheet_on, unlike_fault};
 
 use crate::Fault;
 use crate::each::paper_in;

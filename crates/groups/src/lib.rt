@@ -190,18 +190,14 @@ fn search_year(bytes: &[u8], results: &[u16], n: u16) -> Answer
 }
 
 // Two answers that are both right for the same lists and results are equal.
-pub fn answer_determined() -> u8
+pub fn answer_determined()
     ensures { AnswerDetermined }
-{
-    0
-}
+{}
 
 // For all bytes and results there is one outcome.
-pub fn outcome_determined() -> u8
+pub fn outcome_determined()
     ensures { OutcomeDetermined }
-{
-    0
-}
+{}
 
 #[cfg(test)]
 mod tests {

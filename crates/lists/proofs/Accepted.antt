@@ -2,10 +2,11 @@
 use Rattle.std.proofs.Common.{◌≡◌, ℕ, zero, suc, ◌+◌, ◌*◌, ◌<◌, ◌≤◌, Bool, true, false, cond, ◌&&◌, ltb, List, [], ◌∷◌, length, get_or, Some, None, Option, sym, refl, ap, inl, inr, arith}
 use Rattle.std.proofs.lemmas.List.{get_or_default}
 use Rattle.std.proofs.lemmas.Bool.{and_parts, and_from, le-ltb, lt-ltb, ltb-true, ltb-false, cases_lt}
+use Rattle.std.specs.Option.{option_or}
 use Rattle.refusals.specs.declared.Refusal.{Refusal}
 use Rattle.theory.specs.Promise.{Distinct, Proper}
 use Rattle.lists.proofs.Faults.{may_list}
-use Rattle.lists.specs.Format.{number_at, numbers, list_bytes, next_start, start, lists_of, stands_fault, count_fault, list_fault, or_else, lists_fault, fault, Begins, Encodable}
+use Rattle.lists.specs.Format.{number_at, numbers, list_bytes, next_start, start, lists_of, stands_fault, count_fault, list_fault, lists_fault, fault, Begins, Encodable}
 use Rattle.lists.proofs.Positions.{numbers_from, count_of_numbers, numbers_are, count_of_lists, list_is}
 
 -- the stands ts may all be listed by trader own, one after the other, after the stands `before`
@@ -69,7 +70,7 @@ no_fault_right : (b : Bool) (f : Refusal) (o : Option Refusal) → cond b o (Som
 no_fault_right true f o e = (refl, e)
 no_fault_right false f o e = absurd (let z : ◌≡◌ {A = ℕ} 0 1 = cc in omega arith)
 
-pub no_fault_both : (o later : Option Refusal) → or_else o later ≡ None → (o ≡ None) × (later ≡ None)
+pub no_fault_both : (o later : Option Refusal) → option_or o later ≡ None → (o ≡ None) × (later ≡ None)
 no_fault_both (Some f) later e = absurd (let z : ◌≡◌ {A = ℕ} 0 1 = cc in omega arith)
 no_fault_both None later e = (refl, e)
 

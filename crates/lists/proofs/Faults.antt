@@ -2,8 +2,9 @@
 use Rattle.std.proofs.Common.{◌≡◌, ℕ, zero, suc, ◌+◌, ◌<◌, ◌≤◌, Bool, true, false, not, ◌&&◌, ◌||◌, eqb, ltb, List, [], ◌∷◌, length, get_or, set, replicate, Some, None, Ok, Err, Option, Result, sym, refl, ap, ◌∙◌, inl, inr, arith}
 use Rattle.std.proofs.lemmas.Bool.{cases_eq, ne_eqb}
 use Rattle.std.proofs.lemmas.List.{get_or-set_same, get_or-set_other}
+use Rattle.std.specs.Option.{option_or}
 use Rattle.refusals.specs.declared.Refusal.{Refusal}
-use Rattle.lists.specs.Format.{number_at, next_start, member, count_fault, length_fault, end_fault, stand_fault, stands_fault, list_fault, or_else, lists_fault, fault, unless}
+use Rattle.lists.specs.Format.{number_at, next_start, member, count_fault, length_fault, end_fault, stand_fault, stands_fault, list_fault, lists_fault, fault, unless}
 
 -- stand t may be listed by trader own after the stands `before`
 abbrev pub may_list : ℕ → ℕ → List ℕ → ℕ → Bool
@@ -25,7 +26,7 @@ module _ (bs : List ℕ) (n own : ℕ) (before : List ℕ) (left p : ℕ) (whole
       step zero h = absurd (omega arith)
       step (suc k) h =
           let e' : stand_fault bs n own p (member (number_at bs p) before) ≡ Some f = rw is at e in
-          ap (λ o. or_else o (stands_fault bs n own (number_at bs p ∷ before) k (p + 2))) e'
+          ap (λ o. option_or o (stands_fault bs n own (number_at bs p ∷ before) k (p + 2))) e'
 
   pub stands_next : (t rest : ℕ) → t ≡ number_at bs p → left ≡ rest + 1 → stand_fault bs n own p again ≡ None →
       stands_fault bs n own (t ∷ before) rest (p + 2) ≡ whole
@@ -34,7 +35,7 @@ module _ (bs : List ℕ) (n own : ℕ) (before : List ℕ) (left p : ℕ) (whole
       let l : left ≡ suc rest = omega arith in
       let whole_is : stands_fault bs n own before (suc rest) p ≡ whole = rw l at so_far in
       let e' : stand_fault bs n own p (member (number_at bs p) before) ≡ None = rw is at e in
-      rw at (sym (ap (λ o. or_else o (stands_fault bs n own (number_at bs p ∷ before) rest (p + 2))) e') ∙ whole_is)
+      rw at (sym (ap (λ o. option_or o (stands_fault bs n own (number_at bs p ∷ before) rest (p + 2))) e') ∙ whole_is)
 
 -- a stand that may be listed
 module _ (n own t : ℕ) (before : List ℕ) where
@@ -94,11 +95,11 @@ module _ (bs : List ℕ) (n own left p : ℕ) (whole : Option Refusal) (so_far :
 module _ (bs : List ℕ) (n own p : ℕ) where
   pub long_wrong : (f : Refusal) → length_fault bs p ≡ Some f → list_fault bs n own p ≡ Some f
   unfolding list_fault
-  long_wrong f e = ap (λ o. or_else o (stands_fault bs n own [] (get_or bs p 0) (p + 1))) e
+  long_wrong f e = ap (λ o. option_or o (stands_fault bs n own [] (get_or bs p 0) (p + 1))) e
 
   pub list_right : (o : Option Refusal) → length_fault bs p ≡ None → stands_fault bs n own [] (get_or bs p 0) (p + 1) ≡ o → list_fault bs n own p ≡ o
   unfolding list_fault
-  list_right o e stands = ap (λ q. or_else q (stands_fault bs n own [] (get_or bs p 0) (p + 1))) e ∙ stands
+  list_right o e stands = ap (λ q. option_or q (stands_fault bs n own [] (get_or bs p 0) (p + 1))) e ∙ stands
 
   -- a stand without a fault exists
   pub stand_below : (again : Bool) → stand_fault bs n own p again ≡ None → number_at bs p < n
@@ -124,7 +125,7 @@ no_mark n t = ne_eqb _ _ (λ e. let none = no_marks n t in omega arith)
 
 -- all bytes: the count, and then the lists
 pub count_wrong : (bs : List ℕ) (f : Refusal) → count_fault bs ≡ Some f → fault bs ≡ Some f
-count_wrong bs f e = ap (λ o. or_else o (lists_fault bs (number_at bs 0) 0 (number_at bs 0) 2)) e
+count_wrong bs f e = ap (λ o. option_or o (lists_fault bs (number_at bs 0) 0 (number_at bs 0) 2)) e
 
 pub count_right : (bs : List ℕ) → count_fault bs ≡ None → fault bs ≡ lists_fault bs (number_at bs 0) 0 (number_at bs 0) 2
-count_right bs e = ap (λ o. or_else o (lists_fault bs (number_at bs 0) 0 (number_at bs 0) 2)) e
+count_right bs e = ap (λ o. option_or o (lists_fault bs (number_at bs 0) 0 (number_at bs 0) 2)) e

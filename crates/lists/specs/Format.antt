@@ -1,6 +1,7 @@
 -- The bytes of the lists of a year: the number n of traders (two bytes, low byte first), then for each trader from 0 on the
 -- count of its list (one byte) and the list's stands (two bytes each, low byte first), the dearest first.
 use Rattle.std.specs.Prelude.{◌≡◌, ℕ, zero, suc, ◌+◌, ◌*◌, ◌/◌, ◌%◌, ◌<◌, ◌≤◌, Bool, false, cond, not, ◌&&◌, ◌||◌, List, [], ◌∷◌, ◌++◌, length, take, drop, Some, None, Ok, Err, Option, Result, ◌==◌, nat_lt, slice_index, slice_index_or}
+use Rattle.std.specs.Option.{option_or}
 use Rattle.refusals.specs.declared.Refusal.{Refusal}
 use Rattle.refusals.specs.declared.Refusal.TheVariants.{WrongLength, WrongCount, LongList, WrongStand}
 use Rattle.theory.specs.Promise.{Proper}
@@ -42,11 +43,6 @@ abbrev pub member : ℕ → List ℕ → Bool
 member t [] = false
 member t (u ∷ us) = u == t || member t us
 
--- the earlier of two faults, where both are looked for
-abbrev pub or_else : Option Refusal → Option Refusal → Option Refusal
-or_else (Some f) later = Some f
-or_else None later = later
-
 -- the fault of the number of traders
 abbrev pub count_fault : List ℕ → Option Refusal
 count_fault bs =
@@ -68,11 +64,11 @@ stand_fault bs n own p again =
 unfoldable pub stands_fault : List ℕ → ℕ → ℕ → List ℕ → ℕ → ℕ → Option Refusal
 stands_fault bs n own before zero p = None
 stands_fault bs n own before (suc k) p =
-    or_else (stand_fault bs n own p (member (number_at bs p) before)) (stands_fault bs n own (number_at bs p ∷ before) k (p + 2))
+    option_or (stand_fault bs n own p (member (number_at bs p) before)) (stands_fault bs n own (number_at bs p ∷ before) k (p + 2))
 
 -- the first fault in the list that begins at p
 unfoldable pub list_fault : List ℕ → ℕ → ℕ → ℕ → Option Refusal
-list_fault bs n own p = or_else (length_fault bs p) (stands_fault bs n own [] (slice_index bs p) (p + 1))
+list_fault bs n own p = option_or (length_fault bs p) (stands_fault bs n own [] (slice_index bs p) (p + 1))
 
 -- nothing may follow the lists
 abbrev pub end_fault : List ℕ → ℕ → Option Refusal
@@ -81,24 +77,24 @@ end_fault bs p = cond (nat_lt p (length bs)) (Some (WrongLength p)) None
 -- the first fault in k lists from p on, and then in what follows them
 unfoldable pub lists_fault : List ℕ → ℕ → ℕ → ℕ → ℕ → Option Refusal
 lists_fault bs n own zero p = end_fault bs p
-lists_fault bs n own (suc k) p = or_else (list_fault bs n own p) (lists_fault bs n (suc own) k (next_start bs p))
+lists_fault bs n own (suc k) p = option_or (list_fault bs n own p) (lists_fault bs n (suc own) k (next_start bs p))
 
 -- The first fault of one trader's list by itself: its count, its stands, and what follows them, as in a year of 4,000 traders,
 -- the most there can be.
 abbrev pub own_list_fault : List ℕ → ℕ → Option Refusal
 own_list_fault list own =
-    or_else (length_fault list 0) (or_else (stands_fault list 4000 own [] (slice_index list 0) 1) (end_fault list (next_start list 0)))
+    option_or (length_fault list 0) (option_or (stands_fault list 4000 own [] (slice_index list 0) 1) (end_fault list (next_start list 0)))
 
 -- The first fault of the bytes of a year, from front to back; None where they are accepted.
 abbrev pub fault : List ℕ → Option Refusal
-fault bs = or_else (count_fault bs) (lists_fault bs (number_at bs 0) 0 (number_at bs 0) 2)
+fault bs = option_or (count_fault bs) (lists_fault bs (number_at bs 0) 0 (number_at bs 0) 2)
 
 -- in accepted bytes, the list of trader i begins at p
 abbrev pub Begins : List ℕ → ℕ → ℕ → Type 0
 Begins bs i p = (fault bs ≡ None) × (i < number_at bs 0) × (p ≡ start bs i)
 
 -- the answer of a call that is refused by a fault, if there is one
-abbrev pub unless : {A : Type 0} → Option Refusal → A → Result A Refusal
+abbrev pub unless : {A E : Type 0} → Option E → A → Result A E
 unless (Some f) a = Err f
 unless None a = Ok a
 

@@ -2,8 +2,9 @@
 use Rattle.std.proofs.Common.{◌≡◌, ℕ, zero, suc, ◌+◌, ◌-◌, ◌*◌, ◌<◌, ◌≤◌, Bool, true, false, cond, not, ◌&&◌, eqb, ltb, ◌⊎◌, List, [], ◌∷◌, length, get_or, None, sym, refl, ap, ◌∙◌, inl, inr, arith}
 use Rattle.std.proofs.lemmas.List.{append-nil, get_or_default}
 use Rattle.std.proofs.lemmas.Bool.{and_parts, both_ways, cases_Bool, cases_eq, eq-eqb, eqb-true, ltb-true, ne_eqb, or_cases, not-true}
+use Rattle.std.specs.Option.{option_or}
 use Rattle.theory.specs.Certificate.{ValidSheet, steps}
-use Rattle.lists.specs.Format.{Encodable, list_bytes, member, numbers, or_else, own_list_fault}
+use Rattle.lists.specs.Format.{Encodable, list_bytes, member, numbers, own_list_fault}
 use Rattle.theory.specs.Promise.{Distinct, Proper, rank, rank_in}
 use Rattle.theory.specs.Statements.{ValidSheetIsTheResult}
 use Rattle.theory.specs.Trade.{Lists}
@@ -36,14 +37,14 @@ dearer_right : (paper ts : List ℕ) (j k q : ℕ) → dearer_fault paper ts j �
 unfolding dearer_fault
 dearer_right paper [] j k q e h is = absurd (omega arith)
 dearer_right paper (t ∷ ts) j zero q e h is =
-    let both = no_fault_both (holder_fault paper j t) (or_else (gone_fault paper j) (dearer_fault paper ts (suc j))) e in
+    let both = no_fault_both (holder_fault paper j t) (option_or (gone_fault paper j) (dearer_fault paper ts (suc j))) e in
     let rest = no_fault_both (gone_fault paper j) (dearer_fault paper ts (suc j)) both.1 in
     let same : q ≡ j = omega arith in
     let held = eqb-true (holder_on paper j) t (field_right paper _ _ (eqb (holder_on paper j) t) both.0) in
     let gone = ltb-true (gone_on paper j) (round_on paper) (field_right paper _ _ (ltb (gone_on paper j) (round_on paper)) rest.0) in
     rw same (held, gone)
 dearer_right paper (t ∷ ts) j (suc k) q e h is =
-    let both = no_fault_both (holder_fault paper j t) (or_else (gone_fault paper j) (dearer_fault paper ts (suc j))) e in
+    let both = no_fault_both (holder_fault paper j t) (option_or (gone_fault paper j) (dearer_fault paper ts (suc j))) e in
     let rest = no_fault_both (gone_fault paper j) (dearer_fault paper ts (suc j)) both.1 in
     dearer_right paper ts (suc j) k q rest.1 (omega arith) (omega arith)
 
@@ -59,9 +60,9 @@ pub record Whole (l paper : List ℕ) : Type 0 where
 
 pub whole : (l paper : List ℕ) → fields_fault l paper ≡ None → Whole l paper
 whole l paper e =
-    let parts = no_fault_both (head_fault l paper) (or_else (ring_fault paper [] (ring_length paper) 0) (tail_fault paper (dearer_than (stand_on paper) l))) e in
-    let front = no_fault_both (own_fault paper) (or_else (round_fault paper) (or_else (stand_fault l paper) (length_fault paper))) parts.0 in
-    let more = no_fault_both (round_fault paper) (or_else (stand_fault l paper) (length_fault paper)) front.1 in
+    let parts = no_fault_both (head_fault l paper) (option_or (ring_fault paper [] (ring_length paper) 0) (tail_fault paper (dearer_than (stand_on paper) l))) e in
+    let front = no_fault_both (own_fault paper) (option_or (round_fault paper) (option_or (stand_fault l paper) (length_fault paper))) parts.0 in
+    let more = no_fault_both (round_fault paper) (option_or (stand_fault l paper) (length_fault paper)) front.1 in
     let third = no_fault_both (stand_fault l paper) (length_fault paper) more.1 in
     let back = no_fault_both (ring_fault paper [] (ring_length paper) 0) (tail_fault paper (dearer_than (stand_on paper) l)) parts.1 in
     let end = no_fault_both (count_fault paper (length (dearer_than (stand_on paper) l))) (dearer_fault paper (dearer_than (stand_on paper) l) 0) back.1 in

@@ -2,10 +2,11 @@
 use Rattle.std.proofs.Common.{◌≡◌, ℕ, zero, suc, ◌+◌, ◌*◌, ◌<◌, ◌≤◌, Bool, true, false, cond, not, ◌&&◌, ◌||◌, eqb, ltb, List, [], ◌∷◌, length, get_or, take, drop, None, Option, sym, refl, ap, ◌∙◌, inl, inr, arith}
 use Rattle.std.proofs.lemmas.List.{append-nil, drop_more}
 use Rattle.std.proofs.lemmas.Bool.{and_from, and_parts, cases_Bool, cases_eq, eq-eqb, eqb-true, le-ltb, lt-ltb, ltb-true, ne_eqb}
+use Rattle.std.specs.Option.{option_or}
 use Rattle.refusals.specs.declared.Refusal.{Refusal}
 use Rattle.theory.specs.Certificate.{steps}
 use Rattle.lists.specs.Format as format
-use Rattle.lists.specs.Format.{encode_stands, list_bytes, lists_of, member, number_at, numbers, or_else, own_list_fault, start}
+use Rattle.lists.specs.Format.{encode_stands, list_bytes, lists_of, member, number_at, numbers, own_list_fault, start}
 use Rattle.lists.proofs.Accepted.{all_may, good_numbers, list_good, list_good_at, no_fault_both}
 use Rattle.lists.proofs.Encoding.{length_of_stands, proper_may, stands_written, written_good, written_list}
 use Rattle.lists.proofs.Faults.{may_list}
@@ -80,7 +81,7 @@ module _ (paper : List ℕ) (m : ℕ) (there : (j : ℕ) → j < m → 10 + 2 * 
   ring_fine before zero k is earlier = refl
   ring_fine before (suc left) k is earlier =
       let none = right_member k (member (ring_on paper k) before) (omega arith) (not_again before k (omega arith) earlier) in
-      ap (λ o. or_else o (ring_fault paper (ring_on paper k ∷ before) left (suc k))) none
+      ap (λ o. option_or o (ring_fault paper (ring_on paper k ∷ before) left (suc k))) none
       ∙ ring_fine (ring_on paper k ∷ before) left (suc k) (omega arith) (one_more before k earlier)
 
 -- the dearer stands
@@ -99,7 +100,7 @@ dearer_fine paper (t ∷ ts) j right end =
     let gone : gone_fault paper j ≡ None =
     field_fine paper (6 + ring_length paper + 2 * j) (count_place paper + 5 + 4 * j) _ here.0 (lt-ltb (gone_on paper j) (round_on paper) here.2) in
     let more = dearer_fine paper ts (suc j) (λ k q is h. right (suc k) q (omega arith) (omega arith)) (omega arith) in
-    ap (λ o. or_else o (or_else (gone_fault paper j) (dearer_fault paper ts (suc j)))) held ∙ (ap (λ o. or_else o (dearer_fault paper ts (suc j))) gone ∙ more)
+    ap (λ o. option_or o (option_or (gone_fault paper j) (dearer_fault paper ts (suc j)))) held ∙ (ap (λ o. option_or o (dearer_fault paper ts (suc j))) gone ∙ more)
 
 -- ---- what an accepted sheet says of a trader's list
 
@@ -130,7 +131,7 @@ gone_before sheet i (t ∷ ts) place e j h = elim (cases_Bool (eqb t (stand_in s
 
 -- ---- a paper from an accepted sheet
 
-none_both : (a b : Option Refusal) → a ≡ None → b ≡ None → or_else a b ≡ None
+none_both : (a b : Option Refusal) → a ≡ None → b ≡ None → option_or a b ≡ None
 none_both a b p q = rw p q
 
 module _ (sheet : List ℕ) (n i : ℕ) (l : List ℕ) (h : i < n) (most : n ≤ 4000) (ring : Ring sheet n i)

@@ -2,9 +2,10 @@
 -- 2 stand got, 3 length of the ring, then the traders of the ring, then the count of the dearer stands, then the holder and
 -- the round of each. The first field in fault is told; what goes on after the last field counts as one more.
 use Rattle.std.specs.Prelude.{ℕ, zero, suc, ◌+◌, ◌*◌, Bool, true, cond, not, ◌&&◌, ◌||◌, List, [], ◌∷◌, length, Some, None, Option, ◌==◌, nat_lt}
+use Rattle.std.specs.Option.{option_or}
 use Rattle.refusals.specs.declared.Refusal.{Refusal}
 use Rattle.refusals.specs.declared.Refusal.TheVariants.{PaperFault}
-use Rattle.lists.specs.Format.{list_bytes, member, numbers, or_else, own_list_fault}
+use Rattle.lists.specs.Format.{list_bytes, member, numbers, own_list_fault}
 use Rattle.papers.specs.Paper.{count_on, count_place, dearer_than, gone_on, holder_on, own_on, ring_length, ring_on, round_on, stand_on}
 
 -- field f is in fault where the paper ends before byte `end`, or where it is not right
@@ -40,7 +41,7 @@ member_fault paper k again = field_fault paper (4 + k) (10 + 2 * k) (nat_lt (rin
 unfoldable pub ring_fault : List ℕ → List ℕ → ℕ → ℕ → Option Refusal
 ring_fault paper before zero k = None
 ring_fault paper before (suc left) k =
-    or_else (member_fault paper k (member (ring_on paper k) before)) (ring_fault paper (ring_on paper k ∷ before) left (suc k))
+    option_or (member_fault paper k (member (ring_on paper k) before)) (ring_fault paper (ring_on paper k ∷ before) left (suc k))
 
 -- the count is that of the listed stands before the one got
 abbrev pub count_fault : List ℕ → ℕ → Option Refusal
@@ -61,20 +62,20 @@ end_fault paper j = cond (nat_lt (count_place paper + 1 + 4 * j) (length paper))
 -- the first fault in the dearer stands ts from place j on, and then in what follows them
 unfoldable pub dearer_fault : List ℕ → List ℕ → ℕ → Option Refusal
 dearer_fault paper [] j = end_fault paper j
-dearer_fault paper (t ∷ ts) j = or_else (holder_fault paper j t) (or_else (gone_fault paper j) (dearer_fault paper ts (suc j)))
+dearer_fault paper (t ∷ ts) j = option_or (holder_fault paper j t) (option_or (gone_fault paper j) (dearer_fault paper ts (suc j)))
 
 -- the first fault of the four fields before the ring's traders
 abbrev pub head_fault : List ℕ → List ℕ → Option Refusal
-head_fault l paper = or_else (own_fault paper) (or_else (round_fault paper) (or_else (stand_fault l paper) (length_fault paper)))
+head_fault l paper = option_or (own_fault paper) (option_or (round_fault paper) (option_or (stand_fault l paper) (length_fault paper)))
 
 -- the first fault of the count and of what follows it, where the stands ts are dearer
 abbrev pub tail_fault : List ℕ → List ℕ → Option Refusal
-tail_fault paper ts = or_else (count_fault paper (length ts)) (dearer_fault paper ts 0)
+tail_fault paper ts = option_or (count_fault paper (length ts)) (dearer_fault paper ts 0)
 
 -- the first fault of a paper, for the trader whose list names the stands l
 abbrev pub fields_fault : List ℕ → List ℕ → Option Refusal
 fields_fault l paper =
-    or_else (head_fault l paper) (or_else (ring_fault paper [] (ring_length paper) 0) (tail_fault paper (dearer_than (stand_on paper) l)))
+    option_or (head_fault l paper) (option_or (ring_fault paper [] (ring_length paper) 0) (tail_fault paper (dearer_than (stand_on paper) l)))
 
 -- the trader whose list it has to be: nobody where the paper ends before its number does
 abbrev pub owner : List ℕ → ℕ
@@ -82,4 +83,4 @@ owner paper = cond (nat_lt (length paper) 2) 4000 (own_on paper)
 
 -- The first fault of a trader's list and then of its paper; None where the paper is accepted.
 abbrev pub paper_check_fault : List ℕ → List ℕ → Option Refusal
-paper_check_fault list paper = or_else (own_list_fault list (owner paper)) (fields_fault (numbers (list_bytes list 0)) paper)
+paper_check_fault list paper = option_or (own_list_fault list (owner paper)) (fields_fault (numbers (list_bytes list 0)) paper)

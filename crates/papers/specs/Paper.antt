@@ -1,10 +1,11 @@
 -- A paper shows one trader what it got, the ring by which it got it, and that nobody passed it over. All numbers have two
 -- bytes, low byte first, but for the count of the dearer stands, which has one.
 use Rattle.std.specs.Prelude.{ℕ, zero, suc, ◌+◌, ◌*◌, cond, List, [], ◌∷◌, ◌++◌, length, take, drop, Some, None, Ok, Err, Option, Result, ◌==◌, nat_lt, slice_index, slice_index_or}
+use Rattle.std.specs.Option.{option_or}
 use Rattle.refusals.specs.declared.Lent.TheVariants.{Results}
 use Rattle.refusals.specs.declared.Refusal.{Refusal}
 use Rattle.refusals.specs.declared.Refusal.TheVariants.{PaperFault, TooShort}
-use Rattle.lists.specs.Format.{bytes_of, encode_stands, lists_of, number_at, or_else}
+use Rattle.lists.specs.Format.{bytes_of, encode_stands, lists_of, number_at}
 use Rattle.theory.specs.Trade.{Lists}
 use Rattle.sheet.specs.Sheet.{check_fault, round_in, stand_in}
 
@@ -97,7 +98,7 @@ room_fault room paper = cond (nat_lt room (length paper)) (Some (TooShort Result
 -- The first fault of what a paper is to be written from, for trader i and a slice of `room` bytes.
 abbrev pub paper_fault : List ℕ → List ℕ → ℕ → ℕ → Option Refusal
 paper_fault bs sheet i room =
-    or_else (check_fault bs sheet) (or_else (trader_fault (number_at bs 0) i) (room_fault room (paper_of (lists_of bs) sheet i)))
+    option_or (check_fault bs sheet) (option_or (trader_fault (number_at bs 0) i) (room_fault room (paper_of (lists_of bs) sheet i)))
 
 -- what the slice that is written holds then: the paper and after it what was there; after a refusal all that was there
 abbrev pub left_by : Result ℕ Refusal → List ℕ → List ℕ → List ℕ

@@ -2,36 +2,26 @@
 ghost use Rattle.papers.specs.Trust.{AgreeingPapersAreRight, AgreeingPapersMakeASheet, OwnListsStandThere, PapersOfTheExchangePass, PapersPass};
 
 // In accepted bytes, a trader's list with its count is the part that begins where the list begins.
-pub fn own_lists_stand_there() -> u8
+pub fn own_lists_stand_there()
     ensures { OwnListsStandThere }
-{
-    0
-}
+{}
 
 // Every paper that is written from an accepted sheet passes with that trader's list.
-pub fn papers_pass() -> u8
+pub fn papers_pass()
     ensures { PapersPass }
-{
-    0
-}
+{}
 
 // Every paper of the exchange passes.
-pub fn papers_of_the_exchange_pass() -> u8
+pub fn papers_of_the_exchange_pass()
     ensures { PapersOfTheExchangePass }
-{
-    0
-}
+{}
 
 // Papers for all traders that pass and agree with each other make a valid sheet.
-pub fn agreeing_papers_make_a_sheet() -> u8
+pub fn agreeing_papers_make_a_sheet()
     ensures { AgreeingPapersMakeASheet }
-{
-    0
-}
+{}
 
 // So by such papers everybody has got what the exchange gives.
-pub fn agreeing_papers_are_right() -> u8
+pub fn agreeing_papers_are_right()
     ensures { AgreeingPapersAreRight }
-{
-    0
-}
+{}

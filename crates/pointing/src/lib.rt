@@ -51,11 +51,9 @@ pub fn point_to(list: &[u8], inside: &[u16]) -> Pointing
 }
 
 // The stand pointed to is the exchange's, and its place is that of the first listed stand whose holder is in.
-pub fn first_is_pointed_to() -> u8
+pub fn first_is_pointed_to()
     ensures { FirstIsPointedTo }
-{
-    0
-}
+{}
 
 #[cfg(test)]
 mod tests {

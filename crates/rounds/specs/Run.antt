@@ -1,10 +1,11 @@
 -- What a run of the exchange over lent slices answers, and how it leaves them.
 use Rattle.std.specs.Prelude.{ℕ, ◌*◌, cond, List, ◌++◌, map, length, drop, replicate, Some, None, Ok, Err, Option, Result, nat_lt}
 use Rattle.std.specs.List.{range_with_len}
+use Rattle.std.specs.Option.{option_or}
 use Rattle.refusals.specs.declared.Lent.TheVariants.{Results, Work}
 use Rattle.refusals.specs.declared.Refusal.{Refusal}
 use Rattle.refusals.specs.declared.Refusal.TheVariants.{TooShort}
-use Rattle.lists.specs.Format.{fault, number_at, or_else}
+use Rattle.lists.specs.Format.{fault, number_at}
 use Rattle.theory.specs.Trade.{Lists, result, out, round_count}
 use Rattle.rounds.specs.declared.running.Exchanged.{Exchanged}
 
@@ -23,7 +24,7 @@ room_fault n results_length work_length =
 
 -- The first fault: that of the bytes, and then that of the lent slices, by their lengths.
 abbrev pub run_fault : List ℕ → ℕ → ℕ → Option Refusal
-run_fault bs results_length work_length = or_else (fault bs) (room_fault (number_at bs 0) results_length work_length)
+run_fault bs results_length work_length = option_or (fault bs) (room_fault (number_at bs 0) results_length work_length)
 
 -- The answer: how many traders there are, and how many rounds it took.
 abbrev pub exchanged : Lists → Exchanged

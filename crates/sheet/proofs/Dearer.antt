@@ -1,8 +1,9 @@
 -- How the fault of a trader's list is found a place at a time.
 use Rattle.std.proofs.Common.{◌≡◌, ℕ, ◌+◌, ◌*◌, ◌<◌, true, false, cond, eqb, List, length, drop, Some, None, Option, sym, ap, ◌∙◌, add-one, arith, length-drop}
 use Rattle.std.proofs.lemmas.Bool.{eq-eqb, ne_eqb}
+use Rattle.std.specs.Option.{option_or}
 use Rattle.refusals.specs.declared.Refusal.{Refusal}
-use Rattle.lists.specs.Format.{number_at, numbers, or_else}
+use Rattle.lists.specs.Format.{number_at, numbers}
 use Rattle.lists.proofs.Positions.{numbers_step, numbers_none}
 use Rattle.sheet.specs.Sheet.{stand_in, later_fault, own_fault, dearer_fault}
 
@@ -11,7 +12,7 @@ module _ (sheet xs : List ℕ) (i p : ℕ) (whole : Option Refusal) (so_far : de
   step : 2 * p + 1 < length xs →
       whole
       ≡ cond (eqb (number_at xs (2 * p)) (stand_in sheet i)) None
-      (or_else (later_fault sheet i (number_at xs (2 * p)) p) (dearer_fault sheet i (numbers (drop (2 * (p + 1)) xs)) (p + 1)))
+      (option_or (later_fault sheet i (number_at xs (2 * p)) p) (dearer_fault sheet i (numbers (drop (2 * (p + 1)) xs)) (p + 1)))
   unfolding dearer_fault
   step h = sym so_far ∙ (ap (λ ts. dearer_fault sheet i ts p) (numbers_step xs p h) ∙ rw (add-one p))
 
@@ -33,11 +34,11 @@ module _ (sheet xs : List ℕ) (i p : ℕ) (whole : Option Refusal) (so_far : de
       here : eqb (number_at xs (2 * p)) (stand_in sheet i) ≡ false
       here = ne_eqb _ _ (λ e. other (is ∙ e))
 
-      past : whole ≡ or_else (later_fault sheet i t p) (dearer_fault sheet i (numbers (drop (2 * (p + 1)) xs)) (p + 1))
+      past : whole ≡ option_or (later_fault sheet i t p) (dearer_fault sheet i (numbers (drop (2 * (p + 1)) xs)) (p + 1))
       past = step inside ∙ rw (here, is)
 
       pub dearer_wrong : (f : Refusal) → later_fault sheet i t p ≡ Some f → whole ≡ Some f
-      dearer_wrong f e = past ∙ ap (λ o. or_else o (dearer_fault sheet i (numbers (drop (2 * (p + 1)) xs)) (p + 1))) e
+      dearer_wrong f e = past ∙ ap (λ o. option_or o (dearer_fault sheet i (numbers (drop (2 * (p + 1)) xs)) (p + 1))) e
 
       pub dearer_next : later_fault sheet i t p ≡ None → dearer_fault sheet i (numbers (drop (2 * (p + 1)) xs)) (p + 1) ≡ whole
-      dearer_next e = sym (past ∙ ap (λ o. or_else o (dearer_fault sheet i (numbers (drop (2 * (p + 1)) xs)) (p + 1))) e)
+      dearer_next e = sym (past ∙ ap (λ o. option_or o (dearer_fault sheet i (numbers (drop (2 * (p + 1)) xs)) (p + 1))) e)

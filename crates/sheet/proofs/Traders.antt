@@ -1,8 +1,9 @@
 -- How the first fault of all traders is found a trader at a time.
 use Rattle.std.proofs.Common.{◌≡◌, ℕ, zero, suc, ◌+◌, ◌*◌, ◌<◌, ◌≤◌, Bool, eqb, List, length, get_or, set, replicate, Some, None, Option, sym, ap, ◌∙◌, add-one, arith}
 use Rattle.std.proofs.lemmas.Bool.{and_parts, ltb-true}
+use Rattle.std.specs.Option.{option_or}
 use Rattle.refusals.specs.declared.Refusal.{Refusal}
-use Rattle.lists.specs.Format.{Begins, list_bytes, lists_of, next_start, number_at, numbers, or_else, start}
+use Rattle.lists.specs.Format.{Begins, list_bytes, lists_of, next_start, number_at, numbers, start}
 use Rattle.theory.specs.Trade.{Lists}
 use Rattle.lists.proofs.Accepted.{begins_list, begins_within, no_fault_both, short_list}
 use Rattle.lists.proofs.Faults.{marks_set, no_mark}
@@ -34,7 +35,7 @@ module _ (ls : Lists) (sheet : List ℕ) (i left : ℕ) (whole : Option Refusal)
 -- a trader's entry without a fault has a stand that exists
 pub entry_below : (sheet : List ℕ) (n i : ℕ) (ts : List ℕ) (again : Bool) → entry_fault sheet n i ts again ≡ None → stand_in sheet i < n
 entry_below sheet n i ts again e =
-    let p = no_fault_both (taken_fault sheet n i again) (or_else (dearer_fault sheet i ts 0) (holder_fault sheet i)) e in
+    let p = no_fault_both (taken_fault sheet n i again) (option_or (dearer_fault sheet i ts 0) (holder_fault sheet i)) e in
     ltb-true _ _ (and_parts _ _ (no_fault_test _ _ p.0)).0
 
 -- the marks of the stands got before: none, and one more

@@ -1,10 +1,11 @@
 -- What the public exchange promises of the lists that it read, the results and the sheet.
 use Rattle.std.specs.Prelude.{◌≡◌, ℕ, ◌+◌, ◌*◌, ◌/◌, ◌%◌, ◌<◌, ◌≤◌, Bool, true, cond, List, ◌++◌, length, drop, replicate, Some, None, Ok, Err, Option, Result, nat_lt, slice_index, slice_set}
 use Rattle.std.specs.List.{range_with_len, flat_map}
+use Rattle.std.specs.Option.{option_or}
 use Rattle.refusals.specs.declared.Lent.TheVariants.{Results, Sheet, Work}
 use Rattle.refusals.specs.declared.Refusal.{Refusal}
 use Rattle.refusals.specs.declared.Refusal.TheVariants.{TooShort}
-use Rattle.lists.specs.Format.{bytes_of, encode, fault, lists_of, number_at, or_else}
+use Rattle.lists.specs.Format.{bytes_of, encode, fault, lists_of, number_at}
 use Rattle.theory.specs.Promise.{Proper, rank}
 use Rattle.theory.specs.Trade.{Lists, out, result}
 use Rattle.sheet.specs.Sheet.{round_in, sheet_of, stand_in}
@@ -43,7 +44,7 @@ lent_fault n results sheet work =
 
 -- The fault by which the exchange is refused, if there is one: of the bytes, and then of the lent slices, by their lengths.
 abbrev pub exchange_fault : List ℕ → ℕ → ℕ → ℕ → Option Refusal
-exchange_fault bs results sheet work = or_else (fault bs) (lent_fault (number_at bs 0) results sheet work)
+exchange_fault bs results sheet work = option_or (fault bs) (lent_fault (number_at bs 0) results sheet work)
 
 -- How the sheet's slice is left: a refusal changes nothing, and else the sheet stands in front.
 abbrev pub sheet_left : {A : Type 0} → Result A Refusal → Lists → List ℕ → List ℕ

@@ -2,10 +2,11 @@
 -- two bytes each, low byte first. It shows that an exchange went right, to anybody who has the lists.
 use Rattle.std.specs.Prelude.{◌≡◌, ℕ, zero, suc, ◌+◌, ◌*◌, ◌<◌, Bool, false, cond, not, ◌&&◌, ◌||◌, List, [], ◌∷◌, ◌++◌, length, Some, None, Option, ◌==◌, nat_lt, slice_index, slice_index_or}
 use Rattle.std.specs.List.{range_with_len, flat_map}
+use Rattle.std.specs.Option.{option_or}
 use Rattle.refusals.specs.declared.Refusal.{Refusal}
 use Rattle.refusals.specs.declared.Refusal.TheVariants.{SheetLength, StandTaken, DearerLater, HolderElsewhere}
 use Rattle.theory.specs.Certificate.{ValidSheet}
-use Rattle.lists.specs.Format.{Encodable, bytes_of, encode, fault, lists_of, number_at, or_else}
+use Rattle.lists.specs.Format.{Encodable, bytes_of, encode, fault, lists_of, number_at}
 use Rattle.theory.specs.Promise.{Proper}
 use Rattle.theory.specs.Trade.{Lists, out, result}
 
@@ -45,7 +46,7 @@ own_fault sheet i place = cond (stand_in sheet i == i) None (Some (DearerLater i
 unfoldable pub dearer_fault : List ℕ → ℕ → List ℕ → ℕ → Option Refusal
 dearer_fault sheet i [] place = own_fault sheet i place
 dearer_fault sheet i (t ∷ ts) place =
-    cond (t == stand_in sheet i) None (or_else (later_fault sheet i t place) (dearer_fault sheet i ts (suc place)))
+    cond (t == stand_in sheet i) None (option_or (later_fault sheet i t place) (dearer_fault sheet i ts (suc place)))
 
 -- the holder of the stand that trader i got went out in the same round
 abbrev pub holder_fault : List ℕ → ℕ → Option Refusal
@@ -55,7 +56,7 @@ holder_fault sheet i =
 -- the first fault of trader i with the list ts, whose stand was got `again`
 abbrev pub entry_fault : List ℕ → ℕ → ℕ → List ℕ → Bool → Option Refusal
 entry_fault sheet n i ts again =
-    or_else (taken_fault sheet n i again) (or_else (dearer_fault sheet i ts 0) (holder_fault sheet i))
+    option_or (taken_fault sheet n i again) (option_or (dearer_fault sheet i ts 0) (holder_fault sheet i))
 
 -- the first fault of trader i; a trader before may have got its stand
 unfoldable pub trader_fault : Lists → List ℕ → ℕ → Option Refusal
@@ -64,7 +65,7 @@ trader_fault ls sheet i = entry_fault sheet (length ls) i (slice_index_or ls i [
 -- the first fault of k traders from trader i on
 unfoldable pub traders_fault : Lists → List ℕ → ℕ → ℕ → Option Refusal
 traders_fault ls sheet i zero = None
-traders_fault ls sheet i (suc k) = or_else (trader_fault ls sheet i) (traders_fault ls sheet (suc i) k)
+traders_fault ls sheet i (suc k) = option_or (trader_fault ls sheet i) (traders_fault ls sheet (suc i) k)
 
 -- the sheet has an entry for each trader, and no more
 abbrev pub length_fault : ℕ → List ℕ → Option Refusal
@@ -72,11 +73,11 @@ length_fault n sheet = cond (length sheet == 4 * n) None (Some (SheetLength (len
 
 -- The first fault of a sheet for the lists ls; None where it is accepted.
 abbrev pub sheet_fault : Lists → List ℕ → Option Refusal
-sheet_fault ls sheet = or_else (length_fault (length ls) sheet) (traders_fault ls sheet 0 (length ls))
+sheet_fault ls sheet = option_or (length_fault (length ls) sheet) (traders_fault ls sheet 0 (length ls))
 
 -- The first fault of the bytes of a year and of a sheet for it.
 abbrev pub check_fault : List ℕ → List ℕ → Option Refusal
-check_fault bs sheet = or_else (fault bs) (sheet_fault (lists_of bs) sheet)
+check_fault bs sheet = option_or (fault bs) (sheet_fault (lists_of bs) sheet)
 
 -- the stands and the rounds of a sheet of the right length are valid for the lists
 abbrev pub Valid : Lists → List ℕ → Type 0

@@ -122,18 +122,14 @@ pub fn push_page(text: &mut String, paper: &[u8]) -> Result<(), AllocError>
 }
 
 // No line of the page of a paper that passes is wider than 72 columns.
-pub fn pages_are_narrow() -> u8
+pub fn pages_are_narrow()
     ensures { PagesAreNarrow }
-{
-    0
-}
+{}
 
 // No line of the page of any bytes is wider than 74 columns.
-pub fn pages_of_any_bytes() -> u8
+pub fn pages_of_any_bytes()
     ensures { PagesOfAnyBytes }
-{
-    0
-}
+{}
 
 #[cfg(test)]
 mod tests {

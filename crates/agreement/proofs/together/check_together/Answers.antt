@@ -1,7 +1,8 @@
+use Rattle.lists.specs.Format.{unless}
 use Rattle.std.proofs.Common.{◌≡◌, ◌*◌, take, replicate, Option, ap, ◌∙◌}
 use Rattle.std.proofs.lemmas.Result.{err_from_is_err_and}
 use Rattle.agreement.specs.declared.Fault.{Fault}
-use Rattle.agreement.specs.Agreement.{sheet_fault, unless}
+use Rattle.agreement.specs.Agreement.{sheet_fault}
 use Rattle.agreement.proofs.Agreed.{agreed_by, sheet_is, sheet_right, sheet_wrong}
 use Rattle.agreement.proofs.Steps.{accepted_by, refused_by}
 use Rattle.agreement.proofs.together.check_together.Goals as goal

@@ -1,8 +1,8 @@
 use Rattle.std.proofs.Common.{ℕ, List, replicate, ap, ◌∙◌}
-use Rattle.lists.specs.Format.{lists_of}
+use Rattle.lists.specs.Format.{lists_of, unless}
 use Rattle.lists.proofs.Faults.{no_fault}
 use Rattle.papers.specs.Paper.{paper_of}
-use Rattle.agreement.specs.Agreement.{on_paper, unless, unlike_fault}
+use Rattle.agreement.specs.Agreement.{on_paper, unlike_fault}
 use Rattle.agreement.proofs.Written.{never_refused, paper_fits, right_paper}
 use Rattle.agreement.proofs.together.check_written.Goals as goal
 
