@@ -6,7 +6,7 @@ use Rattle.std.specs.Option.{option_or}
 use Rattle.refusals.specs.declared.Refusal.{Refusal}
 use Rattle.theory.specs.Promise.{Distinct, Proper}
 use Rattle.lists.proofs.Faults.{may_list}
-use Rattle.lists.specs.Format.{number_at, numbers, list_bytes, next_start, start, lists_of, stands_fault, count_fault, list_fault, lists_fault, fault, Begins, Encodable}
+use Rattle.lists.specs.Format.{number_at, numbers, list_bytes, next_start, start, lists_of, stands_fault, count_fault, end_fault, list_fault, lists_fault, fault, Begins, Encodable}
 use Rattle.lists.proofs.Positions.{numbers_from, count_of_numbers, numbers_are, count_of_lists, list_is}
 
 -- the stands ts may all be listed by trader own, one after the other, after the stands `before`
@@ -129,10 +129,13 @@ module _ (bs : List ℕ) (n own p : ℕ) (g : Good bs n own p) where
   pub good_length : length (numbers (list_bytes bs p)) ≡ get_or bs p 0
   good_length = rw good_numbers (count_of_numbers bs (get_or bs p 0) (p + 1))
 
+pub no_more : (bs : List ℕ) (p : ℕ) → end_fault bs p ≡ None → length bs ≤ p
+no_more bs p e = ltb-false _ _ (no_fault_left _ _ _ e).0
+
 -- all lists without a fault
 pub good_end : (bs : List ℕ) (n own p : ℕ) → lists_fault bs n own 0 p ≡ None → length bs ≤ p
 unfolding lists_fault
-good_end bs n own p e = ltb-false _ _ (no_fault_left _ _ _ e).0
+good_end bs n own p = no_more bs p
 
 pub good_lists : (bs : List ℕ) (n own k p : ℕ) → p ≡ start bs own → p ≤ length bs → lists_fault bs n own k p ≡ None →
     ((i : ℕ) → own ≤ i → i < own + k → Good bs n i (start bs i)) × ((m : ℕ) → m ≡ own + k → start bs m ≡ length bs)

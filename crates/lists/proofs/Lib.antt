@@ -1,4 +1,5 @@
 pub mod Accepted
 pub mod Encoding
 pub mod Faults
+pub mod Parts
 pub mod Positions

@@ -1,5 +1,5 @@
 -- Where the lists of a year begin, and the numbers that stand there.
-use Rattle.std.proofs.Common.{◌≡◌, ℕ, zero, suc, ◌+◌, ◌*◌, ◌<◌, ◌≤◌, List, [], ◌∷◌, length, get_or, take, drop, sym, refl, ap, ◌∙◌, add-one, arith}
+use Rattle.std.proofs.Common.{◌≡◌, ℕ, zero, suc, ◌+◌, ◌-◌, ◌*◌, ◌<◌, ◌≤◌, List, [], ◌∷◌, length, get_or, take, drop, sym, refl, ap, ◌∙◌, add-one, arith}
 use Rattle.std.proofs.lemmas.List.{drop_more, drop_all, take_all, length-drop, length-take-le}
 use Rattle.lists.specs.Format.{start, next_start, number_at, numbers, list_bytes, lists_from, lists_of}
 
@@ -43,6 +43,19 @@ unfolding numbers
 numbers_none [] h = refl
 numbers_none (x ∷ []) h = refl
 numbers_none (x ∷ y ∷ xs) h = absurd (omega arith)
+
+-- two bytes and more give a number, and then those of the rest
+pub numbers_more : (xs : List ℕ) → 2 ≤ length xs → numbers xs ≡ number_at xs 0 ∷ numbers (take (length xs - 2) (drop 2 xs))
+unfolding numbers
+numbers_more [] h = absurd (omega arith)
+numbers_more (x ∷ []) h = absurd (omega arith)
+numbers_more (x ∷ y ∷ xs) h =
+    let rest : length (x ∷ y ∷ xs) - 2 ≡ length xs = omega arith in
+    let all = take_all (length xs) xs (omega arith) in
+    rw (rest, all)
+
+pub numbers_fewer : (xs : List ℕ) → 2 ≤ length xs → length (numbers (take (length xs - 2) (drop 2 xs))) < length (numbers xs)
+numbers_fewer xs h = rw (numbers_more xs h) (omega arith)
 
 -- a part of the bytes that holds k numbers, read as numbers
 pub numbers_are : (bs : List ℕ) (k p : ℕ) → p + 2 * k ≤ length bs → numbers (take (2 * k) (drop p bs)) ≡ numbers_from bs k p

@@ -112,13 +112,33 @@ unfoldable pub encode_stands : List ℕ → List ℕ
 encode_stands [] = []
 encode_stands (t ∷ ts) = bytes_of t ++ encode_stands ts
 
+-- the bytes of one list: its count and its stands
+abbrev pub encode_list : List ℕ → List ℕ
+encode_list ts = length ts ∷ encode_stands ts
+
 unfoldable pub encode_lists : Lists → List ℕ
 encode_lists [] = []
-encode_lists (l ∷ ls) = (length l ∷ encode_stands l) ++ encode_lists ls
+encode_lists (l ∷ ls) = encode_list l ++ encode_lists ls
 
 -- the bytes that lists are written as
 unfoldable pub encode : Lists → List ℕ
 encode ls = bytes_of (length ls) ++ encode_lists ls
+
+-- The bytes are those of one list of at most 40 stands.
+pub record IsList (bs : List ℕ) : Type 0 where
+  pub short : length (numbers (list_bytes bs 0)) ≤ 40
+  pub whole : bs ≡ encode_list (numbers (list_bytes bs 0))
+
+-- The bytes are those of k such lists.
+pub record AreLists (bs : List ℕ) (k : ℕ) : Type 0 where
+  pub short : (i : ℕ) → i < k → length (slice_index_or (lists_from bs k 0) i []) ≤ 40
+  pub whole : bs ≡ encode_lists (lists_from bs k 0)
+
+-- The bytes are those of a year of n traders, whose lists can be written down.
+pub record IsYear (bs : List ℕ) (n : ℕ) : Type 0 where
+  pub count : n ≡ length (lists_of bs)
+  pub can : Encodable (lists_of bs)
+  pub whole : bs ≡ encode (lists_of bs)
 
 -- In accepted bytes, the slice that is handed out for a trader's list is that trader's list.
 abbrev pub SlicesAreLists : Type 0

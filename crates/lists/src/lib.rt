@@ -4,3 +4,5 @@
 pub mod bytes;
 pub mod laws;
 pub mod reading;
+pub mod stands;
+pub mod year;

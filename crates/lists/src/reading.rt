@@ -1,8 +1,9 @@
 // Reading the bytes of a year's lists, from front to back.
 ghost use Rattle.std.specs.Prelude.{◌≡◌, ℕ, suc, ◌+◌, ◌-◌, ◌*◌, ◌<◌, ◌≤◌, Bool, true, cond, List, [], length, Some, None, MatchOption, MatchResult, ◌==◌, slice_index};
-ghost use Rattle.lists.specs.Format.{count_fault, end_fault, fault, length_fault, list_bytes, lists_fault, next_start, number_at, own_list_fault, stand_fault, stands_fault, start, unless};
+ghost use Rattle.lists.specs.Format.{count_fault, end_fault, fault, length_fault, list_bytes, lists_fault, lists_of, next_start, number_at, numbers, own_list_fault, stand_fault, stands_fault, start, unless};
 
 use crate::bytes::{byte_at, number_in};
+use crate::year::{List, Year};
 use refusals::Refusal;
 
 // No year has more traders, and no list more stands.
@@ -99,16 +100,35 @@ fn read_lists(bytes: &[u8], n: u16) -> Result<usize, Refusal>
     Ok(at)
 }
 
+// Nothing follows byte `end`.
+pub fn check_end(bytes: &[u8], end: usize) -> Result<(), Refusal>
+    ensures { result ≡ unless (end_fault bytes.now end) tt }
+{
+    if end < bytes.len() {
+        return Err(Refusal::WrongLength { at: end });
+    }
+    Ok(())
+}
+
+impl<'a> Year<'a> {
+    // Reads the lists of a year, or finds the first fault from front to back.
+    #[tactic(auto, using(crate::proofs::Parts::accepted_year))]
+    pub fn read(bytes: &'a [u8]) -> Result<Year<'a>, Refusal>
+        ensures { result ≡ unless (fault bytes.now) (lists_of bytes.now) }
+    {
+        let traders = read_count(bytes)?;
+        let end = read_lists(bytes, traders)?;
+        check_end(bytes, end)?;
+        Ok(Year { bytes, traders })
+    }
+}
+
+#[tactic(auto, using(crate::proofs::Positions::count_of_lists))]
 // Reads the lists of a year: the number of traders, or the first fault from front to back.
 pub fn read(bytes: &[u8]) -> Result<u16, Refusal>
     ensures { result ≡ unless (fault bytes.now) (number_at bytes.now 0) }
 {
-    let n = read_count(bytes)?;
-    let end = read_lists(bytes, n)?;
-    if end < bytes.len() {
-        return Err(Refusal::WrongLength { at: end });
-    }
-    Ok(n)
+    Ok(Year::read(bytes)?.traders())
 }
 
 // Where the list of a trader begins: its count's byte. It is found by going over the lists before it.
@@ -136,15 +156,23 @@ pub fn list_at(bytes: &[u8], at: usize) -> &[u8]
     &bytes[at + 1..at + 1 + size]
 }
 
+impl<'a> List<'a> {
+    // Reads one trader's list by itself: its count, its stands, and nothing after them.
+    pub fn read(list: &'a [u8], own: u16) -> Result<List<'a>, Refusal>
+        ensures { result ≡ unless (own_list_fault list.now own) (numbers (list_bytes list.now 0)) }
+    {
+        let count = read_length(list, 0)?;
+        let end = read_stands(list, MOST_TRADERS, own, count, 1, &mut [0; 4000], 1)?;
+        check_end(list, end)?;
+        Ok(List { bytes: list })
+    }
+}
+
 // Reads one trader's list by itself: its count, its stands, and nothing after them. Hands on the bytes of the stands.
 pub fn read_list(list: &[u8], own: u16) -> Result<&[u8], Refusal>
     ensures { MatchResult result (λ s. (s.now ≡ list_bytes list.now 0) × (own_list_fault list.now own ≡ None)) (λ f. own_list_fault list.now own ≡ Some f) }
 {
-    let count = read_length(list, 0)?;
-    let end = read_stands(list, MOST_TRADERS, own, count, 1, &mut [0; 4000], 1)?;
-    if end < list.len() {
-        return Err(Refusal::WrongLength { at: end });
-    }
+    List::read(list, own)?;
     Ok(list_at(list, 0))
 }
 
