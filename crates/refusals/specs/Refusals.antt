@@ -1,5 +1,5 @@
 -- The number and the place of each refusal, as they are printed and handed on.
-use Rattle.std.specs.Prelude.{ℕ, ◌+◌, ◌*◌}
+use Rattle.std.specs.Prelude.{ℕ, ◌+◌, ◌*◌, List, ◌++◌, codes, decimal}
 use Rattle.refusals.specs.declared.Lent.{Lent}
 use Rattle.refusals.specs.declared.Lent.TheVariants.{Results, Sheet, Work}
 use Rattle.refusals.specs.declared.Refusal.{Refusal}
@@ -34,3 +34,7 @@ place (StandTaken trader) = trader
 place (DearerLater trader rank) = trader * 64 + rank
 place (HolderElsewhere trader) = trader
 place (PaperFault field) = field
+
+-- How a refusal is told.
+abbrev pub refusal_text : Refusal → List ℕ
+refusal_text refusal = codes "refused " ++ (decimal (number refusal) ++ (codes " at " ++ decimal (place refusal)))

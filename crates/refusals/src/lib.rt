@@ -4,6 +4,8 @@
 ghost use Rattle.std.specs.Prelude.{◌≡◌};
 ghost use Rattle.refusals.specs.Refusals.{lent_place, number, place};
 
+use std::fmt;
+
 // The lent slices that can be too short.
 #[derive(Clone, Copy, PartialEq, Eq, Debug)]
 pub enum Lent {
@@ -52,19 +54,16 @@ impl Refusal {
         ensures { result ≡ number self }
     {
         match self {
-            Refusal::WrongLength { at: _ } => 1,
+            Refusal::WrongLength { .. } => 1,
             Refusal::WrongCount => 2,
-            Refusal::LongList { at: _ } => 3,
-            Refusal::WrongStand { at: _ } => 4,
-            Refusal::TooShort { lent: _ } => 5,
-            Refusal::SheetLength { length: _ } => 6,
-            Refusal::StandTaken { trader: _ } => 7,
-            Refusal::DearerLater {
-                trader: _,
-                place: _,
-            } => 8,
-            Refusal::HolderElsewhere { trader: _ } => 9,
-            Refusal::PaperFault { field: _ } => 10,
+            Refusal::LongList { .. } => 3,
+            Refusal::WrongStand { .. } => 4,
+            Refusal::TooShort { .. } => 5,
+            Refusal::SheetLength { .. } => 6,
+            Refusal::StandTaken { .. } => 7,
+            Refusal::DearerLater { .. } => 8,
+            Refusal::HolderElsewhere { .. } => 9,
+            Refusal::PaperFault { .. } => 10,
         }
     }
 
@@ -72,16 +71,26 @@ impl Refusal {
         ensures { result ≡ place self }
     {
         match self {
-            Refusal::WrongLength { at } => at,
+            Refusal::WrongLength { at } | Refusal::LongList { at } | Refusal::WrongStand { at } =>
+                at,
             Refusal::WrongCount => 0,
-            Refusal::LongList { at } => at,
-            Refusal::WrongStand { at } => at,
             Refusal::TooShort { lent } => lent.place(),
             Refusal::SheetLength { length } => length,
-            Refusal::StandTaken { trader } => trader as usize,
+            Refusal::StandTaken { trader } | Refusal::HolderElsewhere { trader } => trader as usize,
             Refusal::DearerLater { trader, place } => trader as usize * 64 + place as usize,
-            Refusal::HolderElsewhere { trader } => trader as usize,
             Refusal::PaperFault { field } => field,
         }
+    }
+}
+
+// How a refusal is told: its number and its place.
+impl fmt::Display for Refusal {
+    ghost use Rattle.std.specs.Prelude.{Some};
+    ghost use Rattle.refusals.specs.Refusals.{refusal_text};
+
+    ghost output = { λ refusal. Some (refusal_text refusal) };
+
+    fn fmt<W: fmt::Write>(&self, f: &mut fmt::Formatter<W>) -> fmt::Result {
+        write!(f, "refused {} at {}", self.number(), self.place())
     }
 }
