@@ -3,3 +3,4 @@ pub mod Encoding
 pub mod Faults
 pub mod Parts
 pub mod Positions
+pub mod Within

@@ -1,5 +1,5 @@
 -- The bytes of an accepted year, taken apart list by list.
-use Rattle.std.proofs.Common.{◌≡◌, ℕ, zero, suc, ◌+◌, ◌-◌, ◌*◌, ◌<◌, ◌≤◌, List, [], ◌∷◌, ◌++◌, length, get_or, take, drop, None, sym, refl, ap, ◌∙◌, arith}
+use Rattle.std.proofs.Common.{◌≡◌, ℕ, suc, ◌+◌, ◌-◌, ◌*◌, ◌<◌, ◌≤◌, List, [], ◌∷◌, ◌++◌, length, get_or, take, drop, None, sym, refl, ap, ◌∙◌, arith}
 use Rattle.std.proofs.lemmas.List.{length-append, length-drop, drop_more, take_at, drop_at, take_all, take_rest}
 use Rattle.theory.specs.Trade.{Lists}
 use Rattle.lists.specs.Format.{AreLists, IsList, IsYear, encode, encode_list, encode_lists, encode_stands, fault, list_bytes, list_fault, lists_from, lists_of, next_start, number_at, numbers}

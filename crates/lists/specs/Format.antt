@@ -79,11 +79,9 @@ unfoldable pub lists_fault : List ℕ → ℕ → ℕ → ℕ → ℕ → Option
 lists_fault bs n own zero p = end_fault bs p
 lists_fault bs n own (suc k) p = option_or (list_fault bs n own p) (lists_fault bs n (suc own) k (next_start bs p))
 
--- The first fault of one trader's list by itself: its count, its stands, and what follows them, as in a year of 4,000 traders,
--- the most there can be.
+-- The first fault of one trader's list by itself, as in a year of 4,000 traders, the most there can be, and then of what follows it.
 abbrev pub own_list_fault : List ℕ → ℕ → Option Refusal
-own_list_fault list own =
-    option_or (length_fault list 0) (option_or (stands_fault list 4000 own [] (slice_index list 0) 1) (end_fault list (next_start list 0)))
+own_list_fault list own = option_or (list_fault list 4000 own 0) (end_fault list (next_start list 0))
 
 -- The first fault of the bytes of a year, from front to back; None where they are accepted.
 abbrev pub fault : List ℕ → Option Refusal

@@ -6,26 +6,19 @@ ghost use Rattle.lists.specs.Format.{number_at};
 pub fn byte_at(bytes: &[u8], at: usize) -> u8
     ensures { result ≡ slice_index bytes.now at }
 {
-    if at < bytes.len() { bytes[at] } else { 0 }
+    bytes.get(at).copied().unwrap_or(0)
 }
 
 // The two-byte number whose first byte is byte `at`; bytes that are missing count as 0.
 pub fn number_at(bytes: &[u8], at: usize) -> u16
     ensures { result ≡ number_at bytes.now at }
 {
-    if at < bytes.len() {
-        u16::from_le_bytes([bytes[at], byte_at(bytes, at + 1)])
-    } else {
-        0
-    }
+    u16::from_le_bytes([byte_at(bytes, at), byte_at(bytes, at.saturating_add(1))])
 }
 
 // The same number; None where the bytes end before it does.
 pub fn number_in(bytes: &[u8], at: usize) -> Option<u16>
     ensures { result ≡ (if nat_lt (length bytes.now) (at + 2) then None else Some (number_at bytes.now at)) }
 {
-    if bytes.len() < 2 || at > bytes.len() - 2 {
-        return None;
-    }
-    Some(number_at(bytes, at))
+    Some(u16::from_le_bytes(*bytes.get(at..)?.first_chunk()?))
 }

@@ -3,6 +3,7 @@
 
 pub mod bytes;
 pub mod laws;
+mod reader;
 pub mod reading;
 pub mod stands;
 pub mod year;
