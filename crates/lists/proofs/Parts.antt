@@ -1,5 +1,5 @@
 -- The bytes of an accepted year, taken apart list by list.
-use Rattle.std.proofs.Common.{◌≡◌, ℕ, suc, ◌+◌, ◌-◌, ◌*◌, ◌<◌, ◌≤◌, List, [], ◌∷◌, ◌++◌, length, get_or, take, drop, None, sym, refl, ap, ◌∙◌, arith}
+use Rattle.std.proofs.Common.{◌≡◌, ℕ, zero, suc, ◌+◌, ◌-◌, ◌*◌, ◌<◌, ◌≤◌, List, [], ◌∷◌, ◌++◌, length, get_or, take, drop, None, sym, refl, ap, ◌∙◌, arith}
 use Rattle.std.proofs.lemmas.List.{length-append, length-drop, drop_more, take_at, drop_at, take_all, take_rest}
 use Rattle.theory.specs.Trade.{Lists}
 use Rattle.lists.specs.Format.{AreLists, IsList, IsYear, encode, encode_list, encode_lists, encode_stands, fault, list_bytes, list_fault, lists_from, lists_of, next_start, number_at, numbers}
@@ -125,10 +125,21 @@ module _ (bs : List ℕ) (n : ℕ) (year : IsYear bs n) where
   unfolding encode
   year_begins = let whole = ap length year.whole in omega arith
 
--- where some lists are left: the first of them, and the others
-module _ (bs : List ℕ) (k : ℕ) (left : AreLists bs k) (some : k ≡ 0 → ⊥) where
+-- where some bytes are left, some lists are
+pub some_left : (bs : List ℕ) (k : ℕ) → AreLists bs k → 0 < length bs → 0 < k
+unfolding lists_from encode_lists
+some_left bs zero left h = absurd (omega (arith, ap length left.whole))
+some_left bs (suc k) left h = omega arith
+
+pub none_left : (bs : List ℕ) (k : ℕ) → AreLists bs k → length bs ≤ 0 → lists_from bs k 0 ≡ []
+unfolding lists_from encode_lists
+none_left bs zero left h = refl
+none_left bs (suc k) left h = absurd (omega (arith, first_within bs k left))
+
+-- where some bytes are left: the first of them, and the others
+module _ (bs : List ℕ) (k : ℕ) (left : AreLists bs k) (some : 0 < length bs) where
   one_more : k ≡ suc (k - 1)
-  one_more = omega arith
+  one_more = omega (arith, some_left bs k left some)
 
   left_more : AreLists bs (suc (k - 1))
   left_more = rw (← one_more) left
@@ -144,8 +155,3 @@ module _ (bs : List ℕ) (k : ℕ) (left : AreLists bs k) (some : k ≡ 0 → �
 
   pub part_and_rest : lists_from bs k 0 ≡ numbers (list_bytes (take (1 + 2 * get_or bs 0 0) bs) 0) ∷ lists_from (drop (1 + 2 * get_or bs 0 0) bs) (k - 1) 0
   part_and_rest = ap (λ m. lists_from bs m 0) one_more ∙ first_of_all bs (k - 1) left_more
-
--- no lists
-pub no_lists : (bs : List ℕ) (k : ℕ) → k ≡ 0 → lists_from bs k 0 ≡ []
-unfolding lists_from
-no_lists bs k none = rw none refl

@@ -3,6 +3,7 @@
 
 pub mod bytes;
 pub mod laws;
+pub mod list;
 mod reader;
 pub mod reading;
 pub mod stands;

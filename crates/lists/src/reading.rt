@@ -4,7 +4,7 @@ ghost use Rattle.lists.specs.Format.{count_fault, end_fault, fault, list_bytes, 
 
 use crate::bytes::number_in;
 use crate::reader::Reader;
-use crate::year::{List, Year};
+use crate::year::Year;
 use refusals::Refusal;
 
 // No year has more traders, and no list more stands.
@@ -47,20 +47,10 @@ impl<'a> Year<'a> {
             reader.list(own, own + 1)?;
         }
         check_end(bytes, reader.at)?;
-        Ok(Year { bytes, traders })
-    }
-}
-
-impl<'a> List<'a> {
-    #[tactic(auto, using(crate::proofs::Accepted::no_more, crate::proofs::Parts::accepted_list))]
-    // Reads one trader's list by itself: its count, its stands, and nothing after them.
-    pub fn read(list: &'a [u8], own: u16) -> Result<List<'a>, Refusal>
-        ensures { result ≡ unless (own_list_fault list.now own) (numbers (list_bytes list.now 0)) }
-    {
-        let mut reader = Reader::new(list, 0, MOST_TRADERS);
-        reader.list(own, 1)?;
-        check_end(list, reader.at)?;
-        Ok(List { bytes: list })
+        Ok(Year {
+            bytes,
+            count: traders,
+        })
     }
 }
 
