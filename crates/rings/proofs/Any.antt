@@ -1,11 +1,12 @@
 -- A trader whom any walk of one or more steps brings back is on a ring: as many steps as there are traders are enough.
-use Rattle.std.proofs.Common.{◌≡◌, ℕ, zero, suc, ◌+◌, ◌-◌, ◌<◌, ◌≤◌, true, ltb, List, length, get_or, set, replicate, sym, ap, ◌∙◌, inl, inr, arith, length-set}
+use Rattle.std.proofs.Common.{◌≡◌, ℕ, zero, suc, ◌+◌, ◌-◌, ◌<◌, ◌≤◌, true, ltb, eqb, List, length, get_or, set, replicate, sym, ap, ◌∙◌, inl, inr, arith, length-set}
+use Rattle.std.proofs.lemmas.List.Sums.{count_by-le-length}
 use lib.ListN.{length-replicate, get_or-replicate}
 use Rattle.std.proofs.lemmas.Bool.{cases_eq, cases_lt, lt-ltb}
 use Rattle.rings.specs.Ring.{step, walk_along, back, on_ring_of}
 use Rattle.rings.specs.Walk.{Walked, unmet}
 use Rattle.rings.proofs.Steps.{walk_next, walk_then, came_in, ring_within, back_from}
-use Rattle.rings.proofs.Marks.{unmet_most, unmet_has, unmet_set, walked_none, walked_more}
+use Rattle.rings.proofs.Marks.{unmet_has, unmet_set, walked_none, walked_more}
 
 -- a walk that goes on until it comes to nobody or to somebody met before
 walk_exists : (next : List ℕ) (k : ℕ) (m : List ℕ) (at : ℕ) → length m ≡ length next → unmet m ≤ k →
@@ -31,7 +32,7 @@ soon_back next i k l b =
     let n = length next in
     let zeros = replicate (length next) 0 in
     let len : length zeros ≡ n = length-replicate {A = ℕ} n 0 in
-    let t = walk_exists next n zeros i len (let u = unmet_most zeros in omega arith) in
+    let t = walk_exists next n zeros i len (let u = count_by-le-length (λ x. eqb x 0) zeros in omega arith) in
     go t.0 t.1 t.2
   where
     go : (m' : List ℕ) (e : ℕ) → Walked next (replicate (length next) 0) m' 1 i e (length next) →

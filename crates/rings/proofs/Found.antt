@@ -3,10 +3,10 @@ use Rattle.std.proofs.Common.{◌≡◌, ℕ, zero, suc, ◌+◌, ◌-◌, ◌<�
 use lib.ListN.{length-replicate, get_or-replicate}
 use Rattle.std.proofs.lemmas.Bool.{cases_Bool, cases_eq, cases_lt, eq-eqb, ne_eqb, lt-ltb}
 use Rattle.rings.specs.Ring.{step, walk_along, back, on_ring_of}
-use Rattle.rings.specs.Walk.{Walked, Told, unmet}
+use Rattle.rings.specs.Walk.{HasMark, Walked, Told, unmet}
 use Rattle.rings.proofs.Steps.{walk_suc, walk_then, came_in, step_past, back_from, back_gives}
-use Rattle.rings.proofs.Marks.{unmet_most}
-use Rattle.rings.proofs.Around.{Ringed}
+use Rattle.std.proofs.lemmas.List.Sums.{count_by-le-length}
+use Rattle.rings.proofs.Around.{OnRing, Ringed}
 
 -- the marks after the walks from the traders below i: they are marked, with them all to whom their walks lead, and nobody
 -- who is on no ring has the mark of a ring
@@ -24,7 +24,7 @@ pub record Done (next m : List ℕ) (i : ℕ) : Type 0 where
   pub none : (y : ℕ) → y < length next → (get_or m y 0 ≡ 0 → ⊥) → (get_or m y 0 ≡ 65535 → ⊥) → (k : ℕ) → walk_along next (suc k) y ≡ y → ⊥
 
 few_unmet : (next m : List ℕ) → length m ≡ length next → unmet m ≤ length next
-few_unmet next m e = let u = unmet_most m in omega arith
+few_unmet next m e = let u = count_by-le-length (λ x. eqb x 0) m in omega arith
 
 pub done_start : (next : List ℕ) → Done next (replicate (length next) 0) 0
 done_start next = record {
@@ -126,7 +126,7 @@ module _ (next m m' : List ℕ) (i e s : ℕ) (D : Done next m i) (W : Walked ne
   }
 
   -- a walk that ended at nobody, or on the way of a walk before, met nobody on a ring
-  pub done_elsewhere : i < length next → length next ≤ 4000 → (e < length next → get_or m' e 0 ≡ i + 1 → ⊥) → Done next m' (i + 1)
+  pub done_elsewhere : i < length next → length next ≤ 4000 → (HasMark m' e (i + 1) → ⊥) → Done next m' (i + 1)
   done_elsewhere below most other = record {
     half = walked_half below most;
     none = λ y l h r k b. elim (W.each y) [
@@ -148,7 +148,7 @@ module _ (next m m' : List ℕ) (i e s : ℕ) (D : Done next m i) (W : Walked ne
       met_marked : Marked e
       met_marked l v =
           elim (W.each e) [
-            | inl t ↦ other l (way_mark e t)
+            | inl t ↦ other (omega (arith, W.same_length, D.half.same_length), way_mark e t)
             | inr q ↦ W.stops l (q ∙ v)
           ]
 
@@ -156,15 +156,14 @@ module _ (next m m' : List ℕ) (i e s : ℕ) (D : Done next m i) (W : Walked ne
       end_marked y t = subst Marked (sym (way_end y t)) met_marked
 
   -- a walk that ended on its own way has found a ring
-  pub ring_found : s ≤ length next → length next ≤ 4000 → i < length next → e < length next → get_or m' e 0 ≡ i + 1 →
-      (p : ℕ) × (p < length next) × (walk_along next (suc p) e ≡ e)
-  ring_found few most below l h =
+  pub ring_found : s ≤ length next → length next ≤ 4000 → i < length next → HasMark m' e (i + 1) → OnRing next e
+  ring_found few most below h =
       elim (W.each e) [
         | inl t ↦
             let b = t.1 in
             let c : W.count - t.0 ≡ suc (W.count - t.0 - 1) = omega arith in
-            (W.count - t.0 - 1, omega (arith, W.few), rw c at (way_end e t))
-        | inr q ↦ absurd (let u = D.half.small e l (λ v. omega arith) in omega arith)
+            record { within = omega (arith, h.0, W.same_length, D.half.same_length); last = W.count - t.0 - 1; few = omega (arith, W.few); back = rw c at (way_end e t) }
+        | inr q ↦ absurd (let u = D.half.small e (omega (arith, h.0, W.same_length, D.half.same_length)) (λ v. omega (arith, h.1)) in omega (arith, h.1))
       ]
 
   -- and nobody else whom it met is on one
@@ -172,7 +171,7 @@ module _ (next m m' : List ℕ) (i e s : ℕ) (D : Done next m i) (W : Walked ne
   unfolding walk_along
   done_ring m'' below most R = record {
     half = ringed_half;
-    none = λ y l h r k b. elim (R.each y) [
+    none = λ y l h r k b. elim (R.marked.each y) [
       | inl t ↦ r (ring_mark y t)
       | inr q ↦ elim (W.each y) [
         | inr u ↦ D.none y l (λ v. h (q ∙ u ∙ v)) (λ v. r (q ∙ u ∙ v)) k b
@@ -182,10 +181,10 @@ module _ (next m m' : List ℕ) (i e s : ℕ) (D : Done next m i) (W : Walked ne
   }
     where
       OnIt : ℕ → Type 0
-      OnIt y = (j : ℕ) × (j < suc R.last) × (walk_along next j e ≡ y)
+      OnIt y = (j : ℕ) × (j < suc R.ring.last) × (walk_along next j e ≡ y)
 
       ring_mark : (y : ℕ) → OnIt y → get_or m'' y 0 ≡ 65535
-      ring_mark y t = rw t.2 at (R.new t.0 t.1)
+      ring_mark y t = rw t.2 at (R.marked.new t.0 t.1)
 
       met_on_it : OnIt e
       met_on_it = (0, omega arith, refl)
@@ -194,20 +193,20 @@ module _ (next m m' : List ℕ) (i e s : ℕ) (D : Done next m i) (W : Walked ne
       steps_on_it y t =
           let b = t.1 in
           let st : walk_along next (suc t.0) e ≡ step next y = walk_suc next t.0 e ∙ ap (step next) t.2 in
-          elim (cases_lt (suc t.0) (suc R.last)) [
+          elim (cases_lt (suc t.0) (suc R.ring.last)) [
             | inl k ↦ (suc t.0, k, st)
             | inr k ↦
-                let c : suc t.0 ≡ suc R.last = omega arith in
-                (0, omega arith, sym R.back ∙ ap (λ n. walk_along next n e) (sym c) ∙ st)
+                let c : suc t.0 ≡ suc R.ring.last = omega arith in
+                (0, omega arith, sym R.ring.back ∙ ap (λ n. walk_along next n e) (sym c) ∙ st)
           ]
 
       -- a trader on the ring comes back to itself as the one met does
-      comes_round : (y : ℕ) → OnIt y → walk_along next (suc R.last) y ≡ y
+      comes_round : (y : ℕ) → OnIt y → walk_along next (suc R.ring.last) y ≡ y
       comes_round y t =
-          ap (walk_along next (suc R.last)) (sym t.2)
-          ∙ sym (walk_then next (suc R.last) t.0 e (suc R.last + t.0) refl)
-          ∙ walk_then next t.0 (suc R.last) e (suc R.last + t.0) (omega arith)
-          ∙ ap (walk_along next t.0) R.back
+          ap (walk_along next (suc R.ring.last)) (sym t.2)
+          ∙ sym (walk_then next (suc R.ring.last) t.0 e (suc R.ring.last + t.0) refl)
+          ∙ walk_then next t.0 (suc R.ring.last) e (suc R.ring.last + t.0) (omega arith)
+          ∙ ap (walk_along next t.0) R.ring.back
           ∙ t.2
 
       H : Half next m' (i + 1)
@@ -215,24 +214,24 @@ module _ (next m m' : List ℕ) (i e s : ℕ) (D : Done next m i) (W : Walked ne
 
       ringed_half : Half next m'' (i + 1)
       ringed_half = record {
-        same_length = R.same_length ∙ H.same_length;
-        few = few_unmet next m'' (R.same_length ∙ H.same_length);
-        met = λ j l z. elim (R.each j) [
+        same_length = R.marked.same_length;
+        few = few_unmet next m'' (R.marked.same_length);
+        met = λ j l z. elim (R.marked.each j) [
           | inl t ↦ let u = ring_mark j t in omega arith
           | inr q ↦ H.met j l (sym q ∙ z)
         ];
-        closed = λ y l sl h z. elim (R.each y) [
+        closed = λ y l sl h z. elim (R.marked.each y) [
           | inl t ↦ let u = ring_mark (step next y) (steps_on_it y t) in omega arith
-          | inr q ↦ elim (R.each (step next y)) [
+          | inr q ↦ elim (R.marked.each (step next y)) [
             | inl t ↦ let u = ring_mark (step next y) t in omega arith
             | inr r ↦ H.closed y l sl (λ v. h (q ∙ v)) (sym r ∙ z)
           ]
         ];
-        ring = λ y l h. elim (R.each y) [
-          | inl t ↦ (R.last, R.few, comes_round y t)
+        ring = λ y l h. elim (R.marked.each y) [
+          | inl t ↦ (R.ring.last, R.ring.few, comes_round y t)
           | inr q ↦ H.ring y l (sym q ∙ h)
         ];
-        small = λ y l h. elim (R.each y) [
+        small = λ y l h. elim (R.marked.each y) [
           | inl t ↦ absurd (h (ring_mark y t))
           | inr q ↦ let u = H.small y l (λ v. h (q ∙ v)) in omega arith
         ];
