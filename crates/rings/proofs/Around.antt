@@ -1,7 +1,7 @@
 -- Once around a ring, with a mark for each trader on it.
 use Rattle.std.proofs.Common.{◌≡◌, ℕ, zero, suc, ◌-◌, ◌<◌, ◌≤◌, cond, eqb, ◌⊎◌, List, length, get_or, set, sym, refl, ap, ◌∙◌, inl, inr, arith}
-use Rattle.std.proofs.lemmas.List.{get_or_default, get_or-set_same, get_or-set_other, length-set}
-use Rattle.std.proofs.lemmas.Bool.{cases_eq, ne_eqb}
+use Rattle.std.proofs.lemmas.List.{get_or_default, length-set}
+use Rattle.std.proofs.lemmas.Grind.{common_steps}
 use Rattle.rings.specs.Ring.{step, walk_along}
 use Rattle.rings.proofs.Steps.{walk_suc, walk_then, ring_within}
 
@@ -12,8 +12,8 @@ pub record OnRing (next : List ℕ) (e : ℕ) : Type 0 where
   pub few : last < length next
   pub back : walk_along next (suc last) e ≡ e
 
--- whom fewer than k steps from e lead to are marked, and all other marks are as they were
-pub record Marked (next m m' : List ℕ) (e k : ℕ) : Type 0 where
+-- those to whom fewer than k steps from e lead are marked, and all other marks are as they were
+pub record MarkedFrom (next m m' : List ℕ) (e k : ℕ) : Type 0 where
   pub same_length : length m' ≡ length next
   pub new : (j : ℕ) → j < k → get_or m' (walk_along next j e) 0 ≡ 65535
   pub each : (y : ℕ) → ((j : ℕ) × (j < k) × (walk_along next j e ≡ y)) ⊎ (get_or m' y 0 ≡ get_or m y 0)
@@ -24,7 +24,7 @@ pub record Going (next m m' : List ℕ) (e at : ℕ) : Type 0 where
   pub count : ℕ
   pub few : count ≤ ring.last
   pub here : walk_along next count e ≡ at
-  pub marked : Marked next m m' e count
+  pub marked : MarkedFrom next m m' e count
 
 -- the same for the loop: at the start there is nothing to know but the two values
 abbrev pub OnWay : List ℕ → List ℕ → List ℕ → ℕ → ℕ → Type 0
@@ -33,8 +33,9 @@ OnWay next m m' e at = (at < length next) × (((at ≡ e) × (m' ≡ m)) ⊎ Goi
 -- once around, and back at e
 pub record Ringed (next m m' : List ℕ) (e : ℕ) : Type 0 where
   pub ring : OnRing next e
-  pub marked : Marked next m m' e (suc ring.last)
+  pub marked : MarkedFrom next m m' e (suc ring.last)
 
+-- at the start no step is taken
 going_on : (next m m' : List ℕ) (e at : ℕ) → OnRing next e → length m ≡ length next → OnWay next m m' e at → Going next m m' e at
 unfolding walk_along
 going_on next m m' e at ring len on =
@@ -53,24 +54,12 @@ going_on next m m' e at ring len on =
       })
     ]
 
-marked_more : (next m m' : List ℕ) (e k at : ℕ) → walk_along next k e ≡ at → at < length next → Marked next m m' e k →
-    Marked next m (set m' at 65535) e (suc k)
+marked_more : (next m m' : List ℕ) (e k at : ℕ) → walk_along next k e ≡ at → at < length next → MarkedFrom next m m' e k →
+    MarkedFrom next m (set m' at 65535) e (suc k)
 marked_more next m m' e k at here within M = record {
   same_length = length-set m' at 65535 ∙ M.same_length;
-  new = λ j h. elim (cases_eq (walk_along next j e) at) [
-    | inl q ↦ rw q (get_or-set_same m' at 65535 0 (omega (arith, M.same_length)))
-    | inr q ↦ elim (cases_eq j k) [
-      | inl r ↦ absurd (q (ap (λ n. walk_along next n e) r ∙ here))
-      | inr r ↦ get_or-set_other m' at (walk_along next j e) 65535 0 q ∙ M.new j (omega arith)
-    ]
-  ];
-  each = λ y. elim (cases_eq y at) [
-    | inl q ↦ inl (k, omega arith, here ∙ sym q)
-    | inr q ↦ elim (M.each y) [
-      | inl t ↦ inl (t.0, omega (arith, t.1), t.2)
-      | inr r ↦ inr (get_or-set_other m' at y 65535 0 q ∙ r)
-    ]
-  ];
+  new = λ j h. grind (arith, common_steps);
+  each = λ y. grind (arith, common_steps);
 }
 
 -- a step as the code takes it
@@ -95,10 +84,7 @@ to_go_falls : (next : List ℕ) (e k at p : ℕ) → walk_along next (suc p) at 
 unfolding to_go walk_along
 to_go_falls next e zero at p b l other = absurd (omega arith)
 to_go_falls next e (suc k) at zero b l other = absurd (other b)
-to_go_falls next e (suc k) at (suc p) b l other =
-    let h = to_go_within next e k (step next at) p b (omega arith) in
-    let f = ne_eqb (step next at) e other in
-    rw f (omega arith)
+to_go_falls next e (suc k) at (suc p) b l other = let h = to_go_within next e k (step next at) p b (omega arith) in grind (arith, other)
 
 module _ (next m m' : List ℕ) (e at : ℕ) (ring : OnRing next e) (len : length m ≡ length next) (on : OnWay next m m' e at) where
   G : Going next m m' e at
@@ -109,11 +95,7 @@ module _ (next m m' : List ℕ) (e at : ℕ) (ring : OnRing next e) (len : lengt
 
   -- the last step of the ring leads back
   not_last : (get_or next at 0 ≡ e → ⊥) → suc G.count ≤ G.ring.last
-  not_last other =
-      elim (cases_eq G.count G.ring.last) [
-        | inl q ↦ absurd (other (sym one_more ∙ ap (λ n. walk_along next (suc n) e) q ∙ G.ring.back))
-        | inr q ↦ omega (arith, G.few)
-      ]
+  not_last other = grind (arith, one_more, G.few, G.ring.back)
 
   pub going_more : (get_or next at 0 ≡ e → ⊥) → OnWay next m (set m' at 65535) e (get_or next at 0)
   going_more other = (

@@ -1,18 +1,10 @@
 -- The marks that a walk makes, one trader after another.
-use Rattle.std.proofs.Common.{◌≡◌, ℕ, zero, suc, ◌<◌, cond, eqb, ◌⊎◌, List, length, get_or, set, sym, refl, ◌∙◌, subst, inl, inr, arith}
-use Rattle.std.proofs.lemmas.List.{get_or_default, get_or-set_same, get_or-set_other, length-set}
+use Rattle.std.proofs.Common.{◌≡◌, ℕ, zero, suc, ◌<◌, ◌⊎◌, List, length, get_or, set, sym, refl, ◌∙◌, subst, inl, inr, arith}
+use Rattle.std.proofs.lemmas.List.{get_or_default, get_or-set_other, length-set}
 use Rattle.std.proofs.lemmas.Bool.{cases_eq}
-use Rattle.rings.specs.Ring.{step, walk_along}
-use Rattle.rings.specs.Walk.{unmet, Walked}
 use Rattle.std.proofs.lemmas.Grind.{common_steps}
-use Rattle.std.proofs.lemmas.List.Sums.{get_or-le-sum_by, sum_by-set}
-
-pub unmet_has : (m : List ℕ) (i : ℕ) → i < length m → get_or m i 0 ≡ 0 → 0 < unmet m
-unmet_has m i h e = grind (arith, common_steps, get_or-le-sum_by (λ x. cond (eqb x 0) 1 0) m i 0 h)
-
--- a trader who is marked is one fewer to be met
-pub unmet_set : (m : List ℕ) (i w : ℕ) → i < length m → get_or m i 0 ≡ 0 → 0 < w → suc (unmet (set m i w)) ≡ unmet m
-unmet_set m i w h e p = grind (arith, common_steps, sum_by-set (λ x. cond (eqb x 0) 1 0) m i w 0 h)
+use Rattle.rings.specs.Ring.{step, walk_along}
+use Rattle.rings.specs.Walk.{Walked}
 
 -- a walk of no steps
 pub walked_none : (next m : List ℕ) (w at k : ℕ) → (at < length next → get_or m at 0 ≡ 0 → ⊥) → Walked next m m w at at k
@@ -31,18 +23,10 @@ walked_none next m w at k stop = record {
 first_mark : (next m m' : List ℕ) (w at e k : ℕ) → length m ≡ length next → at < length next → 0 < w →
     Walked next (set m at w) m' w (step next at) e k → get_or m' at 0 ≡ w
 first_mark next m m' w at e k len below pos W =
-    let s : get_or (set m at w) at 0 ≡ w = get_or-set_same m at w 0 (omega arith) in
-    elim (W.each at) [
-      | inl t ↦ absurd (let u : get_or (set m at w) at 0 ≡ 0 = rw t.2 at (W.way t.0 t.1).1 in omega arith)
-      | inr q ↦ q ∙ s
-    ]
+    grind (arith, common_steps)
 
 was_unmet : (m : List ℕ) (at x w : ℕ) → at < length m → 0 < w → get_or (set m at w) x 0 ≡ 0 → get_or m x 0 ≡ 0
-was_unmet m at x w below pos h =
-    elim (cases_eq x at) [
-      | inl q ↦ absurd (let u : get_or (set m at w) at 0 ≡ 0 = rw q at h in omega (arith, get_or-set_same m at w 0 below))
-      | inr q ↦ sym (get_or-set_other m at x w 0 q) ∙ h
-    ]
+was_unmet m at x w below pos h = grind (arith, common_steps)
 
 -- one step, and then a walk
 pub walked_more : (next m m' : List ℕ) (w at e k k' : ℕ) → length m ≡ length next → at < length next → get_or m at 0 ≡ 0 → 0 < w → k < k' →
@@ -82,3 +66,6 @@ unfolding step
 walked_on next m m' w at e k k' len below zero_mark pos less W =
     walked_more next m m' w at e k k' len below zero_mark pos less
     (subst (λ to. Walked next (set m at w) m' w to e k) (get_or_default next at 0 (length next) below) W)
+
+-- what a step of a walk needs to be proved
+pub ruleset walk_steps = (walked_none, walked_on, common_steps)

@@ -76,7 +76,8 @@ fn mark_all(next: &[u16], marks: &mut [u16])
 }
 
 // Walks on from `at`, and marks everybody on the way, until it comes to nobody or to somebody met before.
-#[tactic(auto, using(crate::proofs::Marks::walked_none, crate::proofs::Marks::walked_on, crate::proofs::Marks::unmet_has, crate::proofs::Marks::unmet_set))]
+// No struct of `next` and the marks: it would ensure at each call that `next` stays, in place of their one length.
+#[tactic(auto, using(crate::proofs::Marks::walk_steps))]
 fn walk(next: &[u16], marks: &mut [u16], walker: u16, at: u16, steps: u16) -> u16
     requires same { length marks.old ≡ length next.now }
     requires mark { 0 < walker }
