@@ -1,25 +1,26 @@
 -- A trader whom any walk of one or more steps brings back is on a ring: as many steps as there are traders are enough.
-use Rattle.std.proofs.Common.{◌≡◌, ℕ, zero, suc, ◌+◌, ◌-◌, ◌<◌, ◌≤◌, true, ltb, List, length, get_or, set, replicate, sym, ap, ◌∙◌, inl, inr, arith, length-set}
+use Rattle.std.proofs.Common.{◌≡◌, ℕ, zero, suc, ◌+◌, ◌-◌, ◌<◌, ◌≤◌, true, eqb, List, length, get_or, set, replicate, sym, ap, ◌∙◌, inl, inr, arith, length-set}
+use Rattle.std.proofs.lemmas.List.Sums.{count_by-le-length}
 use lib.ListN.{length-replicate, get_or-replicate}
-use Rattle.std.proofs.lemmas.Bool.{cases_eq, cases_lt, lt-ltb}
-use Rattle.rings.specs.Ring.{step, walk_along, back, on_ring_of}
+use Rattle.std.proofs.lemmas.Grind.{common_steps}
+use Rattle.std.proofs.lemmas.Bool.{cases_eq, cases_lt}
+use Rattle.rings.specs.Ring.{step, walk_along, on_ring_of}
 use Rattle.rings.specs.Walk.{Walked, unmet}
 use Rattle.rings.proofs.Steps.{walk_next, walk_then, came_in, ring_within, back_from}
-use Rattle.rings.proofs.Marks.{unmet_most, unmet_has, unmet_set, walked_none, walked_more}
+use Rattle.rings.proofs.Marks.{walked_none, walked_more}
 
 -- a walk that goes on until it comes to nobody or to somebody met before
 walk_exists : (next : List ℕ) (k : ℕ) (m : List ℕ) (at : ℕ) → length m ≡ length next → unmet m ≤ k →
     (m' : List ℕ) × (e : ℕ) × Walked next m m' 1 at e k
 walk_exists next zero m at len few =
-    (m, at, walked_none next m 1 at 0 (λ l z. let u = unmet_has m at (omega arith) z in omega arith))
+    (m, at, walked_none next m 1 at 0 (λ l z. grind (arith, common_steps)))
 walk_exists next (suc k) m at len few =
     elim (cases_lt at (length next)) [
-      | inr l ↦ (m, at, walked_none next m 1 at (suc k) (λ b z. omega arith))
+      | inr l ↦ (m, at, walked_none next m 1 at (suc k) (λ b. absurd (omega arith)))
       | inl l ↦ elim (cases_eq (get_or m at 0) 0) [
-        | inr h ↦ (m, at, walked_none next m 1 at (suc k) (λ b z. h z))
+        | inr h ↦ (m, at, walked_none next m 1 at (suc k) (λ b. h))
         | inl h ↦
-            let u = unmet_set m at 1 (omega arith) h (omega arith) in
-            let t = walk_exists next k (set m at 1) (step next at) (length-set m at 1 ∙ len) (omega arith) in
+            let t = walk_exists next k (set m at 1) (step next at) (length-set m at 1 ∙ len) (grind (arith, common_steps)) in
             (t.0, t.1, walked_more next m t.0 1 at t.1 k (suc k) len l h (omega arith) (omega arith) t.2)
       ]
     ]
@@ -31,7 +32,7 @@ soon_back next i k l b =
     let n = length next in
     let zeros = replicate (length next) 0 in
     let len : length zeros ≡ n = length-replicate {A = ℕ} n 0 in
-    let t = walk_exists next n zeros i len (let u = unmet_most zeros in omega arith) in
+    let t = walk_exists next n zeros i len (let u = count_by-le-length (λ x. eqb x 0) zeros in omega arith) in
     go t.0 t.1 t.2
   where
     go : (m' : List ℕ) (e : ℕ) → Walked next (replicate (length next) 0) m' 1 i e (length next) →
@@ -56,6 +57,4 @@ pub ring_any : (next : List ℕ) (i k : ℕ) → i < length next → walk_along 
 unfolding on_ring_of
 ring_any next i k l b =
     let t = soon_back next i k l b in
-    let u : ltb i (length next) ≡ true = lt-ltb i (length next) l in
-    let v : back next i (length next) ≡ true = back_from next i (length next) t.0 t.1 t.2 in
-    rw (u, v)
+    grind (arith, back_from next i (length next) t.0 t.1 t.2)

@@ -1,12 +1,12 @@
 -- Where `next` says to whom each trader who is in points, the rings of `next` are the rings of the exchange.
-use Rattle.std.proofs.Common.{◌≡◌, ℕ, zero, suc, ◌*◌, ◌<◌, ◌≤◌, true, false, cond, eqb, ltb, List, length, get_or, Ok, refl, ap, ◌∙◌, inl, inr, arith}
+use Rattle.std.proofs.Common.{◌≡◌, ℕ, zero, suc, ◌<◌, true, cond, ltb, List, length, get_or, refl, ap, ◌∙◌, inl, inr, arith}
 use Rattle.std.proofs.lemmas.List.{get_or_default}
-use Rattle.std.proofs.lemmas.List.FromFn.{get_or-map-range_with_len, length-map-range_with_len}
-use Rattle.std.proofs.lemmas.Bool.{cases_Bool, lt-ltb, le-ltb, ne_eqb}
+use Rattle.std.proofs.lemmas.List.FromFn.{get_or-map-range_with_len}
+use Rattle.std.proofs.lemmas.Bool.{cases_Bool, lt-ltb}
 use Rattle.theory.proofs.Ranks.{points_in}
 use Rattle.theory.proofs.Walks.{in_below}
 use Rattle.theory.specs.Trade.{Lists, Standing, is_in, points, walk, comes_back, on_ring}
-use Rattle.rings.specs.Ring.{step, walk_along, back, on_ring_of, flag, ring_flags, answer}
+use Rattle.rings.specs.Ring.{step, walk_along, back, on_ring_of, flag, ring_flags}
 
 -- `next` says to whom each trader who is in points
 abbrev pub Follows : Lists → Standing → List ℕ → Type 0
@@ -43,15 +43,3 @@ module _ (ls : Lists) (s : Standing) (next : List ℕ) (n_next : length next ≡
         | inl h ↦ let r = ring_law i l h in rw (h, r)
         | inr h ↦ rw h
       ]
-
-pub length_ring_flags : (inside next : List ℕ) → length (ring_flags inside next) ≡ length next
-unfolding ring_flags
-length_ring_flags inside next = length-map-range_with_len (flag inside next) 0 (length next)
-
--- the call is not refused
-pub answer_ok : (next work : List ℕ) → 0 < length next → length next ≤ 4000 → 2 * length next ≤ length work → answer next work ≡ Ok tt
-answer_ok next work some most room =
-    let a : eqb (length next) 0 ≡ false = ne_eqb (length next) 0 (λ e. omega arith) in
-    let b : ltb 4000 (length next) ≡ false = le-ltb 4000 (length next) most in
-    let c : ltb (length work) (2 * length next) ≡ false = le-ltb (length work) (2 * length next) room in
-    rw (a, b, c)

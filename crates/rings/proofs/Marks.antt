@@ -1,30 +1,10 @@
 -- The marks that a walk makes, one trader after another.
-use Rattle.std.proofs.Common.{◌≡◌, ℕ, zero, suc, ◌<◌, ◌≤◌, true, false, eqb, ltb, ◌⊎◌, List, [], ◌∷◌, length, get_or, set, sym, refl, ◌∙◌, subst, inl, inr, arith}
-use Rattle.std.proofs.lemmas.List.{get_or_default, get_or-set_same, get_or-set_other, length-set}
-use Rattle.std.proofs.lemmas.Bool.{cases_eq, eqb-true, eq-eqb, ne_eqb, ltb-true, lt-ltb, and_parts, and_from, both_ways}
+use Rattle.std.proofs.Common.{◌≡◌, ℕ, zero, suc, ◌<◌, ◌⊎◌, List, length, get_or, set, sym, refl, ◌∙◌, subst, inl, inr, arith}
+use Rattle.std.proofs.lemmas.List.{get_or_default, get_or-set_other, length-set}
+use Rattle.std.proofs.lemmas.Bool.{cases_eq}
+use Rattle.std.proofs.lemmas.Grind.{common_steps}
 use Rattle.rings.specs.Ring.{step, walk_along}
-use Rattle.rings.specs.Walk.{unmet, has_mark, Walked}
-
-pub unmet_most : (m : List ℕ) → unmet m ≤ length m
-unfolding unmet
-unmet_most [] = omega arith
-unmet_most (x ∷ m) = let ih = unmet_most m in grind arith
-
-pub unmet_has : (m : List ℕ) (i : ℕ) → i < length m → get_or m i 0 ≡ 0 → 0 < unmet m
-unfolding unmet
-unmet_has [] i h e = absurd (omega arith)
-unmet_has (x ∷ m) zero h e = let t : eqb x 0 ≡ true = eq-eqb x 0 e in rw t (omega arith)
-unmet_has (x ∷ m) (suc i) h e = let ih = unmet_has m i (omega arith) e in grind arith
-
--- a trader who is marked is one fewer to be met
-pub unmet_set : (m : List ℕ) (i w : ℕ) → i < length m → get_or m i 0 ≡ 0 → 0 < w → suc (unmet (set m i w)) ≡ unmet m
-unfolding unmet
-unmet_set [] i w h e p = absurd (omega arith)
-unmet_set (x ∷ m) zero w h e p =
-    let t : eqb x 0 ≡ true = eq-eqb x 0 e in
-    let u : eqb w 0 ≡ false = ne_eqb w 0 (λ q. omega arith) in
-    rw (t, u)
-unmet_set (x ∷ m) (suc i) w h e p = let ih = unmet_set m i w (omega arith) e p in grind arith
+use Rattle.rings.specs.Walk.{Walked}
 
 -- a walk of no steps
 pub walked_none : (next m : List ℕ) (w at k : ℕ) → (at < length next → get_or m at 0 ≡ 0 → ⊥) → Walked next m m w at at k
@@ -43,18 +23,10 @@ walked_none next m w at k stop = record {
 first_mark : (next m m' : List ℕ) (w at e k : ℕ) → length m ≡ length next → at < length next → 0 < w →
     Walked next (set m at w) m' w (step next at) e k → get_or m' at 0 ≡ w
 first_mark next m m' w at e k len below pos W =
-    let s : get_or (set m at w) at 0 ≡ w = get_or-set_same m at w 0 (omega arith) in
-    elim (W.each at) [
-      | inl t ↦ absurd (let u : get_or (set m at w) at 0 ≡ 0 = rw t.2 at (W.way t.0 t.1).1 in omega arith)
-      | inr q ↦ q ∙ s
-    ]
+    grind (arith, common_steps)
 
 was_unmet : (m : List ℕ) (at x w : ℕ) → at < length m → 0 < w → get_or (set m at w) x 0 ≡ 0 → get_or m x 0 ≡ 0
-was_unmet m at x w below pos h =
-    elim (cases_eq x at) [
-      | inl q ↦ absurd (let u : get_or (set m at w) at 0 ≡ 0 = rw q at h in omega (arith, get_or-set_same m at w 0 below))
-      | inr q ↦ sym (get_or-set_other m at x w 0 q) ∙ h
-    ]
+was_unmet m at x w below pos h = grind (arith, common_steps)
 
 -- one step, and then a walk
 pub walked_more : (next m m' : List ℕ) (w at e k k' : ℕ) → length m ≡ length next → at < length next → get_or m at 0 ≡ 0 → 0 < w → k < k' →
@@ -95,11 +67,5 @@ walked_on next m m' w at e k k' len below zero_mark pos less W =
     walked_more next m m' w at e k k' len below zero_mark pos less
     (subst (λ to. Walked next (set m at w) m' w to e k) (get_or_default next at 0 (length next) below) W)
 
-pub has_mark_parts : (m : List ℕ) (t k : ℕ) → true ≡ has_mark m t k → (t < length m) × (get_or m t 0 ≡ k)
-has_mark_parts m t k h =
-    let p = and_parts (ltb t (length m)) (eqb (get_or m t 0) k) (sym h) in
-    (ltb-true t (length m) p.0, eqb-true (get_or m t 0) k p.1)
-
-pub has_mark_not : (m : List ℕ) (t k : ℕ) → false ≡ has_mark m t k → t < length m → get_or m t 0 ≡ k → ⊥
-has_mark_not m t k h l e =
-    both_ways (has_mark m t k) (sym h) (and_from (ltb t (length m)) (eqb (get_or m t 0) k) (lt-ltb t (length m) l) (eq-eqb (get_or m t 0) k e))
+-- what a step of a walk needs to be proved
+pub ruleset walk_steps = (walked_none, walked_on, common_steps)

@@ -1,7 +1,6 @@
 -- Walks along `next`: how their steps add up, and what a walk that comes back cannot leave.
-use Rattle.std.proofs.Common.{◌≡◌, ℕ, zero, suc, ◌+◌, ◌<◌, ◌≤◌, true, eqb, List, length, refl, ap, ◌∙◌, subst, inl, inr, arith}
+use Rattle.std.proofs.Common.{◌≡◌, ℕ, zero, suc, ◌+◌, ◌<◌, ◌≤◌, true, List, length, refl, ap, ◌∙◌, subst, arith}
 use Rattle.std.proofs.lemmas.List.{get_or_past}
-use Rattle.std.proofs.lemmas.Bool.{cases_Bool, cases_eq, cases_lt, eqb-true, eq-eqb}
 use Rattle.rings.specs.Ring.{step, walk_along, back}
 
 pub walk_next : (next : List ℕ) (k i : ℕ) → walk_along next k (step next i) ≡ step next (walk_along next k i)
@@ -16,7 +15,7 @@ walk_suc next k i = walk_next next k i
 -- a walk of c steps is one of b steps, and then one of a steps
 pub walk_then : (next : List ℕ) (a b i c : ℕ) → c ≡ a + b → walk_along next c i ≡ walk_along next a (walk_along next b i)
 unfolding walk_along
-walk_then next a zero i c e = let h : c ≡ a = omega arith in ap (λ m. walk_along next m i) h
+walk_then next a zero i c e = grind arith
 walk_then next a (suc b) i c e =
     let h : c ≡ suc (a + b) = omega arith in
     ap (λ m. walk_along next m i) h ∙ walk_then next a b (step next i) (a + b) refl
@@ -45,28 +44,14 @@ step_past next y h = omega (arith, get_or_past next y (length next) h)
 -- a walk around a ring never comes to nobody
 pub ring_within : (next : List ℕ) (k c x : ℕ) → walk_along next (suc k) x ≡ x → x < length next → walk_along next c x < length next
 ring_within next k c x e h =
-    elim (cases_lt (walk_along next c x) (length next)) [
-      | inl l ↦ l
-      | inr l ↦ absurd (let q : length next ≤ x = came_in next (λ y. length next ≤ y) (step_past next) k c x e l in omega arith)
-    ]
+    let q = came_in next (λ y. length next ≤ y) (step_past next) k c x e in grind arith
 
 pub back_from : (next : List ℕ) (i k j : ℕ) → j < k → walk_along next (suc j) i ≡ i → back next i k ≡ true
 unfolding back
 back_from next i zero j h e = absurd (omega arith)
-back_from next i (suc k) j h e =
-    elim (cases_eq j k) [
-      | inl q ↦ let t : eqb (walk_along next (suc k) i) i ≡ true = eq-eqb _ _ (rw q at e) in rw t
-      | inr q ↦ elim (cases_Bool (eqb (walk_along next (suc k) i) i)) [
-        | inl t ↦ rw t
-        | inr t ↦ rw t (back_from next i k j (omega arith) e)
-      ]
-    ]
+back_from next i (suc k) j h e = let ih = back_from next i k j in grind arith
 
 pub back_gives : (next : List ℕ) (i k : ℕ) → back next i k ≡ true → (j : ℕ) × (j < k) × (walk_along next (suc j) i ≡ i)
 unfolding back
 back_gives next i zero h = absurd (grind arith)
-back_gives next i (suc k) h =
-    elim (cases_Bool (eqb (walk_along next (suc k) i) i)) [
-      | inl t ↦ (k, omega arith, eqb-true _ _ t)
-      | inr t ↦ let r = back_gives next i k (rw t at h) in (r.0, omega (arith, r.1), r.2)
-    ]
+back_gives next i (suc k) h = let ih = back_gives next i k in grind arith

@@ -1,5 +1,6 @@
 -- Who is on a ring: n traders, of whom trader i points to the stand that the trader with the number next[i] holds.
 use Rattle.std.specs.Prelude.{ℕ, zero, suc, ◌*◌, Bool, true, false, cond, ◌&&◌, ◌||◌, List, ◌++◌, map, length, take, drop, Ok, Err, Result, ◌==◌, nat_lt, slice_index, slice_index_or}
+use Rattle.std.specs.Fn.{iterate}
 use Rattle.std.specs.List.{range_with_len}
 use Rattle.refusals.specs.declared.Lent.TheVariants.{Work}
 use Rattle.refusals.specs.declared.Refusal.{Refusal}
@@ -11,8 +12,7 @@ step next i = slice_index_or next i (length next)
 
 -- the trader whom a walk of k steps reaches
 unfoldable pub walk_along : List ℕ → ℕ → ℕ → ℕ
-walk_along next zero i = i
-walk_along next (suc k) i = walk_along next k (step next i)
+walk_along next k i = iterate (step next) k i
 
 -- some walk of 1 to k steps comes back to trader i
 unfoldable pub back : List ℕ → ℕ → ℕ → Bool

@@ -1,17 +1,14 @@
 -- What the private functions promise one another: the marks of a walk, and of the traders around a ring.
-use Rattle.std.specs.Prelude.{◌≡◌, ℕ, suc, ◌+◌, ◌<◌, ◌≤◌, Bool, cond, ◌&&◌, ◌⊎◌, List, [], ◌∷◌, map, length, ◌==◌, ◌≢◌, nat_lt, slice_index}
-use Rattle.std.proofs.Math.Seq.{paste}
-use Rattle.std.specs.List.{range_with_len}
+use Rattle.std.specs.Prelude.{◌≡◌, ℕ, ◌<◌, ◌≤◌, cond, ◌&&◌, ◌⊎◌, List, length, count_by, ◌==◌, ◌≢◌, slice_index}
 use Rattle.rings.specs.Ring.{walk_along, on_ring_of}
 
 -- trader t exists, and has the mark k
-abbrev pub has_mark : List ℕ → ℕ → ℕ → Bool
-has_mark marks t k = nat_lt t (length marks) && slice_index marks t == k
+abbrev pub HasMark : List ℕ → ℕ → ℕ → Type 0
+HasMark marks t k = (t < length marks) × (slice_index marks t ≡ k)
 
 -- how many traders nobody has met: those whose mark is 0
-unfoldable pub unmet : List ℕ → ℕ
-unmet [] = 0
-unmet (x ∷ xs) = cond (x == 0) (suc (unmet xs)) (unmet xs)
+abbrev pub unmet : List ℕ → ℕ
+unmet marks = count_by (λ mark. mark == 0) marks
 
 -- A walk from the trader `from`, in as many steps as `count` says: it ended at `met`, who is nobody or was met before;
 -- each trader on the way was unmet and now has the walker's mark, and all other marks are as they were.
@@ -30,10 +27,6 @@ pub record Told (next marks : List ℕ) : Type 0 where
   pub same_length : length marks ≡ length next
   pub tells : (i : ℕ) → i < length next → (slice_index marks i == 65535) ≡ on_ring_of next i
 
--- the flag that trader i's entry and mark lead to
-abbrev pub flag_of : List ℕ → ℕ → ℕ → ℕ
-flag_of work n i = cond (slice_index work i == 1 && slice_index work (n + i) == 65535) 1 0
-
--- the work slice with the n marks turned into flags
-unfoldable pub flagged : ℕ → List ℕ → List ℕ
-flagged n work = paste work n (map (flag_of work n) (range_with_len 0 n)) n
+-- the flag that a trader's entry and mark lead to
+abbrev pub flag_of : ℕ → ℕ → ℕ
+flag_of entry mark = cond (entry == 1 && mark == 65535) 1 0

@@ -1,9 +1,9 @@
 // Who is on a ring: a walk from each trader to the holder of the stand that it points to, and on, may come back to it.
 #![tactic(auto)]
 
-ghost use Rattle.std.specs.Prelude.{◌≡◌, ◌+◌, ◌*◌, ◌<◌, ◌≤◌, length, slice_set};
-ghost use Rattle.rings.specs.Ring.{answer, left_by, with_flags};
-ghost use Rattle.rings.specs.Walk.{Told, Walked, flag_of, flagged, has_mark, unmet};
+ghost use Rattle.std.specs.Prelude.{◌≡◌, ◌↔◌, IsTrue, ◌+◌, ◌*◌, ◌<◌, ◌≤◌, length, slice_index, EachIndex};
+ghost use Rattle.rings.specs.Ring.{answer, left_by, ring_flags};
+ghost use Rattle.rings.specs.Walk.{HasMark, Told, Walked, flag_of, unmet};
 
 use lists::reading::MOST_TRADERS;
 use refusals::{Lent, Refusal};
@@ -27,19 +27,22 @@ pub fn mark_rings(next: &[u16], work: &mut [u16]) -> Result<(), Refusal>
     if work.len() < 2 * n {
         return Err(Refusal::TooShort { lent: Lent::Work });
     }
-    flag_rings(next, work);
+    let (inside, rest) = work.split_at_mut(n);
+    let (flags, _) = rest.split_at_mut(n);
+    flag_rings(next, inside, flags);
     Ok(())
 }
 
 // Writes the flags: first marks in their place, which tell who is on a ring, and then what they say of those who are in.
-fn flag_rings(next: &[u16], work: &mut [u16])
+#[tactic(auto, using(crate::proofs::Flags::flags_are))]
+fn flag_rings(next: &[u16], inside: &[u16], flags: &mut [u16])
     requires most { length next.now ≤ 4000 }
-    requires room { 2 * length next.now ≤ length work.old }
-    ensures { work.new ≡ with_flags next.now work.old }
+    requires entries { length inside.now ≡ length next.now }
+    requires flags { length flags.old ≡ length next.now }
+    ensures { flags.new ≡ ring_flags inside.now next.now }
 {
-    let n = next.len();
-    mark_all(next, &mut work[n..2 * n]);
-    turn_to_flags(work, n);
+    mark_all(next, flags);
+    turn_to_flags(inside, flags);
 }
 
 // Marks all traders, those on rings with RING. Each is met once, so the time grows with their number.
@@ -62,7 +65,7 @@ fn mark_all(next: &[u16], marks: &mut [u16])
             continue 'traders;
         }
         let mut at = met;
-        'ring: for _step in 0..n {
+        'ring: loop {
             marks[at as usize] = RING;
             at = next[at as usize];
             if at == met {
@@ -73,6 +76,8 @@ fn mark_all(next: &[u16], marks: &mut [u16])
 }
 
 // Walks on from `at`, and marks everybody on the way, until it comes to nobody or to somebody met before.
+// No struct of `next` and the marks: it would ensure at each call that `next` stays, in place of their one length.
+#[tactic(auto, using(crate::proofs::Marks::walk_steps))]
 fn walk(next: &[u16], marks: &mut [u16], walker: u16, at: u16, steps: u16) -> u16
     requires same { length marks.old ≡ length next.now }
     requires mark { 0 < walker }
@@ -88,28 +93,20 @@ fn walk(next: &[u16], marks: &mut [u16], walker: u16, at: u16, steps: u16) -> u1
 
 // The number is a trader's, and not nobody's, and the trader has that mark.
 fn has_mark(marks: &[u16], trader: u16, mark: u16) -> bool
-    ensures { result ≡ has_mark marks.now trader mark }
+    ensures { IsTrue result ↔ HasMark marks.now trader mark }
 {
-    (trader as usize) < marks.len() && marks[trader as usize] == mark
+    marks.get(trader as usize) == Some(&mark)
 }
 
-// Turns the n marks into flags.
-fn turn_to_flags(work: &mut [u16], n: usize)
-    requires { 2 * n ≤ length work.old }
-    ensures { work.new ≡ flagged n work.old }
+// Turns each mark into the flag: 1 for a trader who is in and on a ring.
+fn turn_to_flags(inside: &[u16], marks: &mut [u16])
+    requires { length inside.now ≡ length marks.old }
+    ensures { EachIndex marks.new (λ i. slice_index marks.new i ≡ flag_of (slice_index inside.now i) (slice_index marks.old i)) }
 {
-    for i in 0..n {
-        turn_to_flag(work, n, i);
+    // by number: after a `zip` with `iter_mut` a proof does not know what was written
+    for (trader, mark) in marks.iter_mut().enumerate() {
+        *mark = u16::from(inside[trader] == 1 && *mark == RING);
     }
-}
-
-// Turns one trader's mark into the flag: 1 for a trader who is in and on a ring.
-fn turn_to_flag(work: &mut [u16], n: usize, i: usize)
-    requires { n + i < length work.old }
-    ensures { work.new ≡ slice_set work.old (n + i) (flag_of work.old n i) }
-{
-    let on_ring = work[i] == 1 && work[n + i] == RING;
-    work[n + i] = if on_ring { 1 } else { 0 };
 }
 
 #[cfg(test)]
