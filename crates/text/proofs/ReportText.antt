@@ -1,16 +1,10 @@
 -- How the text of a report grows: one more trader counted, one more of a ring written, one more line.
-use Rattle.std.proofs.Common.{◌≡◌, ℕ, suc, ◌+◌, ◌-◌, ◌<◌, ◌≤◌, true, false, cond, eqb, ◌⊎◌, List, [], ◌∷◌, ◌++◌, length, take, drop, codes, decimal, ap, ◌∙◌, inl, inr, append_assoc, append-nil, add-one, arith, drop-cons}
+use Rattle.std.proofs.Common.{◌≡◌, ℕ, zero, suc, ◌+◌, ◌-◌, ◌<◌, ◌≤◌, true, false, cond, eqb, ◌⊎◌, List, [], ◌∷◌, ◌++◌, length, take, drop, codes, decimal, refl, ap, ◌∙◌, inl, inr, append_assoc, append-nil, add-one, arith, drop-cons}
 use lib.Seq.{take-nil}
 use Rattle.std.proofs.lemmas.List.{drop_all}
-use Rattle.std.proofs.lemmas.Bool.{eq-eqb, ne_eqb}
+use Rattle.std.proofs.lemmas.Bool.{cases_Bool, eq-eqb, ne_eqb}
 use Rattle.text.proofs.Joined.{two}
-use Rattle.text.specs.Report.{stand_got, keeps, moved, moved_from, ring_on, ring_from, ring_text, spaced, more, newline, line_of, lines_of, head_of}
-
--- the count at a place, and at the next
-pub moved_more : (xs : List ℕ) (i j : ℕ) → j ≡ suc i → i < length xs →
-    moved_from i (drop i xs) ≡ cond (keeps xs i) (moved_from j (drop j xs)) (suc (moved_from j (drop j xs)))
-unfolding moved_from
-moved_more xs i j e l = rw (e, drop-cons xs i i l)
+use Rattle.text.specs.Report.{stand_got, keeps, moved, ring_on, ring_from, ring_text, spaced, more, newline, line_of, lines_of, head_of}
 
 -- a ring's first trader, and the others
 pub ring_on_more : (rs : List ℕ) (home k j at : ℕ) → k ≡ suc j →
@@ -22,38 +16,58 @@ pub ring_on_none : (rs : List ℕ) (home k at : ℕ) → k ≡ 0 → ring_on rs 
 unfolding ring_on
 ring_on_none rs home k at e = rw e
 
--- one step on along a ring, and the last one
-pub ring_goes : (rs : List ℕ) (home n place at next : ℕ) → place < n → next ≡ stand_got rs at → (next ≡ home → ⊥) →
-    ring_on rs home (n - place) at ≡ at ∷ ring_on rs home (n - (place + 1)) next
-ring_goes rs home n place at next l e ne =
-    ring_on_more rs home (n - place) (n - (place + 1)) at (omega arith) ∙ rw (← e, ne_eqb next home ne)
+pub ring_few : (rs : List ℕ) (home k at : ℕ) → length (ring_on rs home k at) ≤ k
+unfolding ring_on
+ring_few rs home zero at = omega arith
+ring_few rs home (suc k) at =
+    elim (cases_Bool (eqb (stand_got rs at) home)) [
+      | inl back ↦ rw back (omega arith)
+      | inr on ↦ (let few = ring_few rs home k (stand_got rs at) in rw on (omega arith))
+    ]
 
-pub ring_ends : (rs : List ℕ) (home n place at next : ℕ) → place < n → next ≡ stand_got rs at → next ≡ home →
-    ring_on rs home (n - place) at ≡ at ∷ []
-ring_ends rs home n place at next l e d =
-    ring_on_more rs home (n - place) (n - (place + 1)) at (omega arith) ∙ rw (← e, eq-eqb next home d)
+-- one step on along a ring, and the last one
+pub ring_goes : (rs : List ℕ) (home k j at : ℕ) → k ≡ j + 1 → (stand_got rs at ≡ home → ⊥) →
+    ring_on rs home k at ≡ at ∷ ring_on rs home j (stand_got rs at)
+ring_goes rs home k j at e ne = ring_on_more rs home k j at (e ∙ add-one j) ∙ rw (ne_eqb (stand_got rs at) home ne)
+
+pub ring_ends : (rs : List ℕ) (home k at : ℕ) → 0 < k → stand_got rs at ≡ home →
+    ring_on rs home k at ≡ at ∷ ring_on rs home 0 (stand_got rs at)
+unfolding ring_on
+ring_ends rs home zero at some back = absurd (omega arith)
+ring_ends rs home (suc k) at some back = rw (eq-eqb (stand_got rs at) home back)
 
 pub count_goes : (place all at : ℕ) (ring others : List ℕ) → ring ≡ at ∷ others → place + length ring ≡ all →
     place + 1 + length others ≡ all
 count_goes place all at ring others e h = let l : length ring ≡ suc (length others) = ap length e in omega arith
 
--- what has become of the text where the trader at a place was written, or was not
-abbrev pub Wrote : ℕ → ℕ → List ℕ → List ℕ → Type 0
-Wrote place at text new = ((place < 20) × (new ≡ text ++ (codes " " ++ decimal at))) ⊎ ((20 ≤ place) × (new ≡ text))
+-- what is still to be told of a ring of which i traders are written
+pub told : ℕ → List ℕ → List ℕ
+told i ring = spaced (take (20 - i) ring) ++ more (length ring - (20 - i))
 
-pub text_goes : (place at : ℕ) (text new ring others whole : List ℕ) → ring ≡ at ∷ others → Wrote place at text new →
-    text ++ spaced (take (20 - place) ring) ≡ whole → new ++ spaced (take (20 - (place + 1)) others) ≡ whole
-unfolding spaced
-text_goes place at text new ring others whole e (inl (l, d)) h =
-    let m : 20 - place ≡ suc (20 - (place + 1)) = omega arith in rw (d, append_assoc) (rw (e, m) at h)
-text_goes place at text new ring others whole e (inr (l, d)) h =
-    let m : 20 - place ≡ 0 = omega arith in
-    let k : 20 - (place + 1) ≡ 0 = omega arith in
-    rw (d, k) (rw m at h)
+pub told_first : (ring : List ℕ) → told 0 ring ≡ ring_text ring
+unfolding told ring_text
+told_first ring = refl
 
-pub text_ends : (k : ℕ) (text whole : List ℕ) → text ++ spaced (take k []) ≡ whole → text ≡ whole
-unfolding spaced
-text_ends k text whole h = rw (take-nil k, append-nil text) at h
+told_more : (i x : ℕ) (ring : List ℕ) → i < 20 → told i (x ∷ ring) ≡ 32 ∷ (decimal x ++ told (i + 1) ring)
+unfolding told spaced
+told_more i x ring l =
+    let left : 20 - i ≡ suc (20 - (i + 1)) = omega arith in
+    let rest : suc (length ring) - suc (20 - (i + 1)) ≡ length ring - (20 - (i + 1)) = omega arith in
+    rw (left, rest) (ap (λ t. 32 ∷ t) (append_assoc (decimal x) (spaced (take (20 - (i + 1)) ring)) (more (length ring - (20 - (i + 1))))))
+
+pub told_goes : (i x : ℕ) (text ring : List ℕ) → i < 20 → (text ++ (32 ∷ decimal x)) ++ told (i + 1) ring ≡ text ++ told i (x ∷ ring)
+told_goes i x text ring l = rw (told_more i x ring l) (append_assoc text (32 ∷ decimal x) (told (i + 1) ring))
+
+pub told_none : (i : ℕ) (text : List ℕ) → text ++ told i [] ≡ text
+unfolding told spaced
+told_none i text = let none : 0 - (20 - i) ≡ 0 = omega arith in rw (take-nil (20 - i), none) (append-nil text)
+
+pub told_last : (i : ℕ) (ring : List ℕ) → 20 ≤ i → told i ring ≡ more (length ring)
+unfolding told spaced
+told_last i ring l =
+    let none : 20 - i ≡ 0 = omega arith in
+    let all : length ring - 0 ≡ length ring = omega arith in
+    rw (none, all)
 
 pub head_joined : (text : List ℕ) (rounds : ℕ) (rs one two : List ℕ) → one ≡ text ++ (codes "rounds " ++ decimal rounds) →
     two ≡ one ++ (codes " moved " ++ decimal (moved rs)) → two ++ newline ≡ text ++ head_of rounds rs
@@ -80,19 +94,3 @@ pub lines_more : (text rs one new : List ℕ) (k j : ℕ) → j ≡ suc k → on
     new ≡ text ++ lines_of rs j
 unfolding lines_of
 lines_more text rs one new k j e p q = rw e (two text one new (lines_of rs k) (line_of rs k) p q)
-
-pub moved_passes : (xs : List ℕ) (i count all : ℕ) → i < length xs → keeps xs i ≡ true → count + moved_from i (drop i xs) ≡ all →
-    count + moved_from (i + 1) (drop (i + 1) xs) ≡ all
-moved_passes xs i count all l k h =
-    let m : moved_from i (drop i xs) ≡ moved_from (i + 1) (drop (i + 1) xs) = moved_more xs i (i + 1) (add-one i) l ∙ rw k in
-    omega arith
-
-pub moved_counts : (xs : List ℕ) (i count all : ℕ) → i < length xs → keeps xs i ≡ false → count + moved_from i (drop i xs) ≡ all →
-    count + 1 + moved_from (i + 1) (drop (i + 1) xs) ≡ all
-moved_counts xs i count all l k h =
-    let m : moved_from i (drop i xs) ≡ suc (moved_from (i + 1) (drop (i + 1) xs)) = moved_more xs i (i + 1) (add-one i) l ∙ rw k in
-    omega arith
-
-pub moved_end : (xs : List ℕ) (i count : ℕ) → length xs ≤ i → count + moved_from i (drop i xs) ≡ moved xs → count ≡ moved xs
-unfolding moved_from
-moved_end xs i count l h = let h' : count + moved_from i [] ≡ moved xs = rw (drop_all i xs l) at h in omega arith
