@@ -16,7 +16,7 @@ fn stand_got(results: &[u16], trader: usize) -> usize
 {
     results
         .get(trader)
-        .map_or(trader, |stand| usize::from(*stand))
+        .map_or(trader, |&stand| usize::from(stand))
 }
 
 // The traders of a ring that are still to come: `next`, and at most `left` of them until the next would be `home`.
@@ -57,7 +57,7 @@ impl<'a> Iterator for Ring<'a> {
 
     ghost remaining = { item_count (λ s. s) };
 
-    #[tactic(auto, using(crate::proofs::ReportText::ring_goes, crate::proofs::ReportText::ring_ends, crate::proofs::ReportText::ring_on_none))]
+    #[tactic(auto, unfolding(crate::specs::Report::ring_on))]
     fn next(&mut self) -> Option<usize> {
         self.left = self.left.checked_sub(1)?;
         let trader = self.next;
@@ -124,7 +124,7 @@ fn moved(results: &[u16]) -> usize
     results
         .iter()
         .enumerate()
-        .filter(|(trader, stand)| usize::from(**stand) != *trader)
+        .filter(|&(trader, &stand)| usize::from(stand) != trader)
         .count()
 }
 
@@ -143,8 +143,8 @@ fn push_head(text: &mut String, rounds: u16, results: &[u16]) -> Result<(), Allo
 fn push_lines(text: &mut String, results: &[u16]) -> Result<(), AllocError>
     ensures { OnOk result (string_bytes text.new ≡ string_bytes text.old ++ lines_of results.now (length results.now)) }
 {
-    for (trader, stand) in results.iter().enumerate() {
-        push_line(text, results, trader, usize::from(*stand))?;
+    for (trader, &stand) in results.iter().enumerate() {
+        push_line(text, results, trader, usize::from(stand))?;
     }
     Ok(())
 }
