@@ -1,5 +1,4 @@
 pub mod Joined
-pub mod ReportText
 pub mod RingText
 pub mod PageText
 pub mod Columns

@@ -1,13 +1,39 @@
--- What is written as the ring of a trader is the ring on which the exchange's results lead around.
-use Rattle.std.proofs.Common.{◌≡◌, ℕ, zero, suc, ◌+◌, ◌-◌, ◌<◌, ◌≤◌, true, false, eqb, ltb, List, [], ◌∷◌, length, get_or, sym, refl, ap, ◌∙◌, inl, inr, arith}
+-- A trader's ring as it is written: it is the ring on which the exchange's results lead around, and how its text grows.
+use Rattle.std.proofs.Common.{◌≡◌, ℕ, zero, suc, ◌+◌, ◌-◌, ◌<◌, ◌≤◌, true, false, cond, eqb, ltb, List, [], ◌∷◌, ◌++◌, length, get_or, take, decimal, sym, refl, ap, ◌∙◌, append_assoc, inl, inr, arith}
 use Rattle.std.proofs.lemmas.List.{get_or_default}
-use Rattle.std.proofs.lemmas.Bool.{cases_order, eqb-true, eqb-false, eq-eqb, ne_eqb, ltb-true, lt-ltb}
+use Rattle.std.proofs.lemmas.Bool.{cases_Bool, cases_order, eqb-true, eqb-false, eq-eqb, ne_eqb, ltb-true, lt-ltb}
 use Rattle.theory.specs.Certificate.{steps}
 use Rattle.theory.specs.Trade.{Lists, result}
 use Rattle.theory.proofs.Finite.{Turning, stays, orbit, least_true, steps_add}
 use Rattle.theory.proofs.Promises.{result_below, result_apart}
-use Rattle.text.proofs.ReportText.{ring_on_more}
-use Rattle.text.specs.Report.{stand_got, ring_on, ring_from, Ring, RingWritten}
+use Rattle.text.specs.Report.{stand_got, more, ring_on, ring_from, spaced, Ring, RingWritten}
+
+pub ring_few : (rs : List ℕ) (home k at : ℕ) → length (ring_on rs home k at) ≤ k
+unfolding ring_on
+ring_few rs home zero at = omega arith
+ring_few rs home (suc k) at =
+    elim (cases_Bool (eqb (stand_got rs at) home)) [
+      | inl back ↦ rw back (omega arith)
+      | inr on ↦ (let few = ring_few rs home k (stand_got rs at) in rw on (omega arith))
+    ]
+
+-- where i traders of a ring are written and another one is, what is written with what is left to write stays the same
+pub one_written : (i x : ℕ) (text ring : List ℕ) → i < 20 →
+    (text ++ (32 ∷ decimal x)) ++ (spaced (take (20 - (i + 1)) ring) ++ more (length ring - (20 - (i + 1))))
+    ≡ text ++ (spaced (take (20 - i) (x ∷ ring)) ++ more (length (x ∷ ring) - (20 - i)))
+unfolding spaced
+one_written i x text ring l =
+    let left : 20 - i ≡ suc (20 - (i + 1)) = omega arith in
+    let rest : suc (length ring) - suc (20 - (i + 1)) ≡ length ring - (20 - (i + 1)) = omega arith in
+    let others = spaced (take (20 - (i + 1)) ring) in
+    let end = more (length ring - (20 - (i + 1))) in
+    rw (left, rest) (append_assoc text (32 ∷ decimal x) (others ++ end) ∙ ap (λ t. text ++ (32 ∷ t)) (sym (append_assoc (decimal x) others end)))
+
+-- a ring's first trader, and the others
+ring_on_more : (rs : List ℕ) (home k j at : ℕ) → k ≡ suc j →
+    ring_on rs home k at ≡ at ∷ cond (eqb (stand_got rs at) home) [] (ring_on rs home j (stand_got rs at))
+unfolding ring_on
+ring_on_more rs home k j at e = rw e
 
 module _ (rs : List ℕ) (f : ℕ → ℕ) (i j : ℕ) (goes : (k : ℕ) → k ≤ j → stand_got rs (steps f k i) ≡ steps f (suc k) i) (home : steps f (suc j) i ≡ i) (not_yet : (h : ℕ) → h < j → steps f (suc h) i ≡ i → ⊥) where
   -- from the a-th of the ring on, d more come before it is back

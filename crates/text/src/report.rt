@@ -36,7 +36,7 @@ impl<'a> Model for Ring<'a> {
 
 impl<'a> Ring<'a> {
     // The whole ring of a trader, from it on.
-    #[tactic(auto, using(crate::proofs::ReportText::ring_few))]
+    #[tactic(auto, using(crate::proofs::RingText::ring_few))]
     fn of(results: &'a [u16], trader: usize) -> Ring<'a>
         ensures ring { result ≡ ring_from results.now trader }
         ensures fits { length result < 2 ^ 64 }
@@ -82,7 +82,7 @@ fn push_more(text: &mut String, left_out: Ring) -> Result<(), AllocError>
 }
 
 // Appends the ring of a trader.
-#[tactic(auto, using(crate::proofs::ReportText::told_first, crate::proofs::ReportText::told_goes, crate::proofs::ReportText::told_none, crate::proofs::ReportText::told_last))]
+#[tactic(auto, using(crate::proofs::RingText::one_written), unfolding(crate::specs::Report::ring_text, crate::specs::Report::spaced))]
 fn push_ring(text: &mut String, results: &[u16], trader: usize) -> Result<(), AllocError>
     ensures { OnOk result (string_bytes text.new ≡ string_bytes text.old ++ ring_text (ring_from results.now trader)) }
 {
