@@ -4,6 +4,7 @@ ghost use Rattle.text.specs.Page.{PagesAreNarrow, PagesOfAnyBytes, fits, gone_li
 ghost use Rattle.papers.specs.Paper.{count_on, own_on, ring_length};
 
 use crate::words::push_word;
+use itoa::Buffer;
 use lists::bytes::{byte_at, number_at};
 use std::alloc::AllocError;
 
@@ -15,11 +16,7 @@ fn width(number: u16) -> usize
     ensures answer { result ≡ width number }
     ensures few { result ≤ 5 }
 {
-    if number < 10 {
-        1
-    } else {
-        width(number / 10) + 1
-    }
+    Buffer::new().format(number).len()
 }
 
 // Appends what the trader got. Where memory fails nothing is said of the text, here and below.
@@ -27,23 +24,20 @@ fn push_got(text: &mut String, own: u16, stand: u16) -> Result<(), AllocError>
     ensures { OnOk result (string_bytes text.new ≡ string_bytes text.old ++ got_text own stand) }
 {
     if stand == own {
-        text.push_str("You keep your stand")?;
-        return Ok(());
+        return text.push_str("You keep your stand");
     }
-    push_word(text, "You get stand ", stand as usize)?;
-    Ok(())
+    push_word(text, "You get stand ", stand)
 }
 
 // Appends the lines before the ring.
 fn push_head(text: &mut String, own: u16, round: u16, stand: u16) -> Result<(), AllocError>
     ensures { OnOk result (string_bytes text.new ≡ string_bytes text.old ++ head_text own round stand) }
 {
-    push_word(text, "Trader ", own as usize)?;
+    push_word(text, "Trader ", own)?;
     text.push_str("\n")?;
     push_got(text, own, stand)?;
-    push_word(text, ", in round ", round as usize)?;
-    text.push_str(".\nRing: ")?;
-    Ok(())
+    push_word(text, ", in round ", round)?;
+    text.push_str(".\nRing: ")
 }
 
 // The next trader still fits on the line.
@@ -60,10 +54,10 @@ fn push_step(text: &mut String, column: usize, trader: u16) -> Result<usize, All
     ensures { IfOk result (λ c. (string_bytes text.new ≡ string_bytes text.old ++ step_text column trader) × (c ≡ step_column column trader) × (c ≤ 72)) }
 {
     if fits(column, trader) {
-        push_word(text, " -> ", trader as usize)?;
+        push_word(text, " -> ", trader)?;
         return Ok(column + 4 + width(trader));
     }
-    push_word(text, "\n-> ", trader as usize)?;
+    push_word(text, "\n-> ", trader)?;
     Ok(3 + width(trader))
 }
 
@@ -73,7 +67,7 @@ fn push_ring(text: &mut String, paper: &[u8], own: u16) -> Result<(), AllocError
     ensures { OnOk result (string_bytes text.new ≡ string_bytes text.old ++ ring_text paper.now) }
 {
     let members = number_at(paper, 6);
-    push_word(text, "", own as usize)?;
+    push_word(text, "", own)?;
     let mut column = 6 + width(own);
     for k in 1..members {
         column = push_step(text, column, number_at(paper, 8 + 2 * k as usize))?;
@@ -87,13 +81,10 @@ fn push_ring(text: &mut String, paper: &[u8], own: u16) -> Result<(), AllocError
 fn push_gone(text: &mut String, holder: u16, round: u16) -> Result<(), AllocError>
     ensures { OnOk result (string_bytes text.new ≡ string_bytes text.old ++ gone_text holder round) }
 {
-    match write!(
+    write!(
         text,
         "Stand {holder}, held by trader {holder}, was gone: they went out in round {round}.\n"
-    ) {
-        Ok(()) => Ok(()),
-        Err(_) => Err(AllocError),
-    }
+    )
 }
 
 // Appends a line for each dearer stand.
