@@ -62,6 +62,7 @@ fn push_step(text: &mut String, column: usize, trader: u16) -> Result<usize, All
 }
 
 // Appends the ring: the own trader, the others, and the own trader again.
+#[tactic(auto, unfolding(crate::specs::Page::ring_text, crate::specs::Page::steps_text))]
 fn push_ring(text: &mut String, paper: &[u8], own: u16) -> Result<(), AllocError>
     requires { own ≡ own_on paper.now }
     ensures { OnOk result (string_bytes text.new ≡ string_bytes text.old ++ ring_text paper.now) }
@@ -88,6 +89,7 @@ fn push_gone(text: &mut String, holder: u16, round: u16) -> Result<(), AllocErro
 }
 
 // Appends a line for each dearer stand.
+#[tactic(auto, unfolding(crate::specs::Page::gone_lines))]
 fn push_lines(text: &mut String, paper: &[u8], members: u16) -> Result<(), AllocError>
     requires { members ≡ ring_length paper.now }
     ensures { OnOk result (string_bytes text.new ≡ string_bytes text.old ++ gone_lines paper.now (count_on paper.now)) }
@@ -102,6 +104,7 @@ fn push_lines(text: &mut String, paper: &[u8], members: u16) -> Result<(), Alloc
 }
 
 // Appends the page of a paper that was checked; bytes that are missing count as 0.
+#[tactic(auto, unfolding(crate::specs::Page::page_of))]
 pub fn push_page(text: &mut String, paper: &[u8]) -> Result<(), AllocError>
     ensures { OnOk result (string_bytes text.new ≡ string_bytes text.old ++ page_of paper.now) }
 {
