@@ -1,4 +1,3 @@
-pub mod Joined
 pub mod RingText
 pub mod PageText
 pub mod Columns
