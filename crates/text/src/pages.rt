@@ -74,8 +74,7 @@ fn push_ring(text: &mut String, paper: &[u8], own: u16) -> Result<(), AllocError
         column = push_step(text, column, number_at(paper, 8 + 2 * k as usize))?;
     }
     push_step(text, column, own)?;
-    text.push_str("\n")?;
-    Ok(())
+    text.push_str("\n")
 }
 
 // Appends why a dearer stand was not to be had.
@@ -111,8 +110,7 @@ pub fn push_page(text: &mut String, paper: &[u8]) -> Result<(), AllocError>
     let own = number_at(paper, 0);
     push_head(text, own, number_at(paper, 2), number_at(paper, 4))?;
     push_ring(text, paper, own)?;
-    push_lines(text, paper, number_at(paper, 6))?;
-    Ok(())
+    push_lines(text, paper, number_at(paper, 6))
 }
 
 // No line of the page of a paper that passes is wider than 72 columns.

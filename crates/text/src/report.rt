@@ -19,7 +19,7 @@ fn stand_got(results: &[u16], trader: usize) -> usize
         .map_or(trader, |&stand| usize::from(stand))
 }
 
-// The traders of a ring that are still to come: `next`, and at most `left` of them until the next would be `home`.
+// The traders of a ring who are still to come: `next` first, at most `left` of them, until the next would be `home`.
 #[derive(Drop)]
 struct Ring<'a> {
     results: &'a [u16],
@@ -37,7 +37,7 @@ impl<'a> Model for Ring<'a> {
 impl<'a> Ring<'a> {
     // The whole ring of a trader, from it on.
     #[tactic(auto, using(crate::proofs::RingText::ring_few))]
-    fn of(results: &'a [u16], trader: usize) -> Ring<'a>
+    fn new(results: &'a [u16], trader: usize) -> Ring<'a>
         ensures ring { result ≡ ring_from results.now trader }
         ensures fits { length result < 2 ^ 64 }
     {
@@ -86,7 +86,8 @@ fn push_more(text: &mut String, left_out: Ring) -> Result<(), AllocError>
 fn push_ring(text: &mut String, results: &[u16], trader: usize) -> Result<(), AllocError>
     ensures { OnOk result (string_bytes text.new ≡ string_bytes text.old ++ ring_text (ring_from results.now trader)) }
 {
-    let mut ring = Ring::of(results, trader);
+    let mut ring = Ring::new(results, trader);
+    // not `ring.by_ref().take(SHOWN)`: of what `take` leaves behind its last item the library says nothing
     for _ in 0..SHOWN {
         let Some(member) = ring.next() else {
             return Ok(());
@@ -96,19 +97,19 @@ fn push_ring(text: &mut String, results: &[u16], trader: usize) -> Result<(), Al
     push_more(text, ring)
 }
 
-// Appends the line of a trader.
+// Appends the line of a trader, who has got this stand.
 #[tactic(auto, unfolding(crate::specs::Report::line_of))]
 fn push_line(
     text: &mut String,
     results: &[u16],
     trader: usize,
-    stand: usize,
+    stand: u16,
 ) -> Result<(), AllocError>
     requires { stand ≡ stand_got results.now trader }
     ensures { OnOk result (string_bytes text.new ≡ string_bytes text.old ++ line_of results.now trader) }
 {
     push_word(text, "trader ", trader)?;
-    if stand == trader {
+    if usize::from(stand) == trader {
         return text.push_str(" keeps\n");
     }
     push_word(text, " gets ", stand)?;
@@ -144,7 +145,7 @@ fn push_lines(text: &mut String, results: &[u16]) -> Result<(), AllocError>
     ensures { OnOk result (string_bytes text.new ≡ string_bytes text.old ++ lines_of results.now (length results.now)) }
 {
     for (trader, &stand) in results.iter().enumerate() {
-        push_line(text, results, trader, usize::from(stand))?;
+        push_line(text, results, trader, stand)?;
     }
     Ok(())
 }
