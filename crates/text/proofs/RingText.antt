@@ -26,6 +26,14 @@ one_written i x text ring l =
     let end = more (length ring - (20 - (i + 1))) in
     rw (left, rest) (append_assoc text (32 ∷ decimal x) (others ++ end) ∙ ap (λ t. text ++ (32 ∷ t)) (sym (append_assoc (decimal x) others end)))
 
+-- and where as many are written as are shown, the number of the others is left to write
+pub rest_written : (i : ℕ) (ring : List ℕ) → 20 ≤ i → spaced (take (20 - i) ring) ++ more (length ring - (20 - i)) ≡ more (length ring)
+unfolding spaced
+rest_written i ring l =
+    let none : 20 - i ≡ 0 = omega arith in
+    let all : length ring - 0 ≡ length ring = omega arith in
+    rw (none, all)
+
 -- a ring's first trader, and the others
 ring_on_more : (rs : List ℕ) (home k at : ℕ) →
     ring_on rs home (suc k) at ≡ at ∷ cond (eqb (stand_got rs at) home) [] (ring_on rs home k (stand_got rs at))

@@ -82,7 +82,7 @@ fn push_more(text: &mut String, left_out: Ring) -> Result<(), AllocError>
 }
 
 // Appends the ring of a trader.
-#[tactic(auto, using(crate::proofs::RingText::one_written), unfolding(crate::specs::Report::ring_text, crate::specs::Report::spaced))]
+#[tactic(auto, using(crate::proofs::RingText::one_written, crate::proofs::RingText::rest_written), unfolding(crate::specs::Report::ring_text, crate::specs::Report::spaced))]
 fn push_ring(text: &mut String, results: &[u16], trader: usize) -> Result<(), AllocError>
     ensures { OnOk result (string_bytes text.new ≡ string_bytes text.old ++ ring_text (ring_from results.now trader)) }
 {
