@@ -1,7 +1,9 @@
 -- How many columns of a line are taken while a text is written.
-use Rattle.std.proofs.Common.{◌≡◌, ℕ, suc, ◌+◌, ◌%◌, ◌^◌, ◌<◌, ◌≤◌, Bool, true, false, cond, not, ◌&&◌, eqb, List, [], ◌∷◌, ◌++◌, length, decimal, refl, arith}
+use Rattle.std.proofs.Common.{◌≡◌, ℕ, suc, ◌+◌, ◌%◌, ◌^◌, ◌<◌, ◌≤◌, Bool, true, false, cond, not, eqb, ◌==◌, List, [], ◌∷◌, ◌++◌, length, decimal, refl, ◌∙◌, arith}
+use Rattle.std.specs.List.{list_all}
 use Rattle.std.proofs.lemmas.Fmt.{decimal_by_steps}
-use Rattle.std.proofs.lemmas.Bool.{and_from, and_parts, ne_eqb, not-true}
+use Rattle.std.proofs.lemmas.List.Folds.{list_all-append}
+use Rattle.std.proofs.lemmas.Bool.{and_parts, ne_eqb, not-true}
 use Rattle.text.specs.Page.{Narrow, NoNewline}
 
 -- A text that begins where c columns are taken ends where d are, and never takes more than `most`.
@@ -16,13 +18,10 @@ goes_on most c d e (x ∷ xs) ys (h, r) g = (h, goes_on most (cond (eqb x 10) 0 
 -- ---- text without a newline
 
 abbrev pub plain : List ℕ → Bool
-plain [] = true
-plain (x ∷ xs) = not (eqb x 10) && plain xs
+plain xs = list_all (λ x. not (x == 10)) xs
 
 pub plain_both : (xs ys : List ℕ) → plain xs ≡ true → plain ys ≡ true → plain (xs ++ ys) ≡ true
-plain_both [] ys p q = q
-plain_both (x ∷ xs) ys p q =
-    let both = and_parts (not (eqb x 10)) (plain xs) p in and_from (not (eqb x 10)) (plain (xs ++ ys)) both.0 (plain_both xs ys both.1 q)
+plain_both xs ys p q = list_all-append (λ x. not (x == 10)) xs ys ∙ rw (p, q)
 
 plain_digit : (d : ℕ) → plain ((48 + d) ∷ []) ≡ true
 plain_digit d = let other : eqb (48 + d) 10 ≡ false = ne_eqb (48 + d) 10 (λ e. omega arith) in rw other

@@ -1,5 +1,3 @@
-pub mod Joined
-pub mod ReportText
 pub mod RingText
 pub mod PageText
 pub mod Columns

@@ -1,13 +1,44 @@
--- What is written as the ring of a trader is the ring on which the exchange's results lead around.
-use Rattle.std.proofs.Common.{◌≡◌, ℕ, zero, suc, ◌+◌, ◌-◌, ◌<◌, ◌≤◌, true, false, eqb, ltb, List, [], ◌∷◌, length, get_or, sym, refl, ap, ◌∙◌, inl, inr, arith}
+-- A trader's ring as it is written: it is the ring on which the exchange's results lead around, and how its text grows.
+use Rattle.std.proofs.Common.{◌≡◌, ℕ, zero, suc, ◌+◌, ◌-◌, ◌<◌, ◌≤◌, true, false, cond, eqb, ltb, List, [], ◌∷◌, ◌++◌, length, get_or, take, decimal, sym, refl, ap, ◌∙◌, append_assoc, inl, inr, arith}
 use Rattle.std.proofs.lemmas.List.{get_or_default}
 use Rattle.std.proofs.lemmas.Bool.{cases_order, eqb-true, eqb-false, eq-eqb, ne_eqb, ltb-true, lt-ltb}
 use Rattle.theory.specs.Certificate.{steps}
 use Rattle.theory.specs.Trade.{Lists, result}
 use Rattle.theory.proofs.Finite.{Turning, stays, orbit, least_true, steps_add}
 use Rattle.theory.proofs.Promises.{result_below, result_apart}
-use Rattle.text.proofs.ReportText.{ring_on_more}
-use Rattle.text.specs.Report.{stand_got, ring_on, ring_from, Ring, RingWritten}
+use Rattle.text.specs.Report.{stand_got, more, ring_on, ring_from, spaced, Ring, RingWritten}
+
+pub ring_few : (rs : List ℕ) (home k at : ℕ) → length (ring_on rs home k at) ≤ k
+unfolding ring_on
+ring_few rs home zero at = omega arith
+ring_few rs home (suc k) at =
+    let few = ring_few rs home k (stand_got rs at) in grind arith
+
+-- where i traders of a ring are written and another one is, what is written with what is left to write stays the same
+pub one_written : (i x : ℕ) (text ring : List ℕ) → i < 20 →
+    (text ++ (32 ∷ decimal x)) ++ (spaced (take (20 - (i + 1)) ring) ++ more (length ring - (20 - (i + 1))))
+    ≡ text ++ (spaced (take (20 - i) (x ∷ ring)) ++ more (length (x ∷ ring) - (20 - i)))
+unfolding spaced
+one_written i x text ring l =
+    let left : 20 - i ≡ suc (20 - (i + 1)) = omega arith in
+    let rest : suc (length ring) - suc (20 - (i + 1)) ≡ length ring - (20 - (i + 1)) = omega arith in
+    let others = spaced (take (20 - (i + 1)) ring) in
+    let end = more (length ring - (20 - (i + 1))) in
+    rw (left, rest) (append_assoc text (32 ∷ decimal x) (others ++ end) ∙ ap (λ t. text ++ (32 ∷ t)) (sym (append_assoc (decimal x) others end)))
+
+-- and where as many are written as are shown, the number of the others is left to write
+pub rest_written : (i : ℕ) (ring : List ℕ) → 20 ≤ i → spaced (take (20 - i) ring) ++ more (length ring - (20 - i)) ≡ more (length ring)
+unfolding spaced
+rest_written i ring l =
+    let none : 20 - i ≡ 0 = omega arith in
+    let all : length ring - 0 ≡ length ring = omega arith in
+    rw (none, all)
+
+-- a ring's first trader, and the others
+ring_on_more : (rs : List ℕ) (home k at : ℕ) →
+    ring_on rs home (suc k) at ≡ at ∷ cond (eqb (stand_got rs at) home) [] (ring_on rs home k (stand_got rs at))
+unfolding ring_on
+ring_on_more rs home k at = refl
 
 module _ (rs : List ℕ) (f : ℕ → ℕ) (i j : ℕ) (goes : (k : ℕ) → k ≤ j → stand_got rs (steps f k i) ≡ steps f (suc k) i) (home : steps f (suc j) i ≡ i) (not_yet : (h : ℕ) → h < j → steps f (suc h) i ≡ i → ⊥) where
   -- from the a-th of the ring on, d more come before it is back
@@ -18,13 +49,13 @@ module _ (rs : List ℕ) (f : ℕ → ℕ) (i j : ℕ) (goes : (k : ℕ) → k �
       let q : a ≡ j = omega arith in
       let back : eqb (stand_got rs (steps f a i)) i ≡ true =
       eq-eqb (stand_got rs (steps f a i)) i (goes a (omega arith) ∙ ap (λ z. steps f (suc z) i) q ∙ home) in
-      let one : ring_on rs i (suc m) (steps f a i) ≡ steps f a i ∷ [] = ring_on_more rs i (suc m) m (steps f a i) refl ∙ rw back in
+      let one : ring_on rs i (suc m) (steps f a i) ≡ steps f a i ∷ [] = ring_on_more rs i m (steps f a i) ∙ rw back in
       rw one (refl, λ k h. let z : k ≡ 0 = omega arith in let y : 0 + a ≡ a = omega arith in rw (z, y))
   ring_is (suc m) (suc d) a e l =
       let on : stand_got rs (steps f a i) ≡ steps f (suc a) i = goes a (omega arith) in
       let far : eqb (steps f (suc a) i) i ≡ false = ne_eqb (steps f (suc a) i) i (not_yet a (omega arith)) in
       let more : ring_on rs i (suc m) (steps f a i) ≡ steps f a i ∷ ring_on rs i m (steps f (suc a) i) =
-      ring_on_more rs i (suc m) m (steps f a i) refl ∙ rw (on, far) in
+      ring_on_more rs i m (steps f a i) ∙ rw (on, far) in
       let ih = ring_is m d (suc a) (omega arith) (omega arith) in
       rw more (ap suc ih.0, further ih)
     where

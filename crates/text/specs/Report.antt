@@ -1,5 +1,6 @@
 -- The text of an exchange's results, as bytes: a first line, and a line for each trader. Each ends with a newline, the byte 10.
-use Rattle.std.specs.Prelude.{◌≡◌, ℕ, zero, suc, ◌-◌, ◌<◌, ◌≤◌, Bool, cond, List, [], ◌∷◌, ◌++◌, length, get_or, take, codes, decimal, ◌==◌, slice_index, slice_index_or}
+use Rattle.std.specs.Prelude.{◌≡◌, ℕ, zero, suc, ◌-◌, ◌<◌, ◌≤◌, Bool, cond, not, List, [], ◌∷◌, ◌++◌, length, count_by, get_or, take, codes, decimal, ◌==◌, slice_index, slice_index_or}
+use Rattle.std.specs.List.{enumerate_from}
 use Rattle.theory.specs.Trade.{Lists, result}
 
 -- the stand that trader i has got; a number past the last trader's gets nothing and stays what it is
@@ -11,9 +12,8 @@ abbrev pub keeps : List ℕ → ℕ → Bool
 keeps results i = stand_got results i == i
 
 -- how many traders do not have the own stand; `i` is the number of the first whose stand is given
-unfoldable pub moved_from : ℕ → List ℕ → ℕ
-moved_from i [] = 0
-moved_from i (stand ∷ stands) = cond (stand == i) (moved_from (suc i) stands) (suc (moved_from (suc i) stands))
+abbrev pub moved_from : ℕ → List ℕ → ℕ
+moved_from i stands = count_by (λ p. not (p.1 == p.0)) (enumerate_from i stands)
 
 -- How many traders move.
 abbrev pub moved : List ℕ → ℕ

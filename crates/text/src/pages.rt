@@ -4,6 +4,7 @@ ghost use Rattle.text.specs.Page.{PagesAreNarrow, PagesOfAnyBytes, fits, gone_li
 ghost use Rattle.papers.specs.Paper.{count_on, own_on, ring_length};
 
 use crate::words::push_word;
+use itoa::Buffer;
 use lists::bytes::{byte_at, number_at};
 use std::alloc::AllocError;
 
@@ -15,11 +16,7 @@ fn width(number: u16) -> usize
     ensures answer { result ≡ width number }
     ensures few { result ≤ 5 }
 {
-    if number < 10 {
-        1
-    } else {
-        width(number / 10) + 1
-    }
+    Buffer::new().format(number).len()
 }
 
 // Appends what the trader got. Where memory fails nothing is said of the text, here and below.
@@ -27,23 +24,20 @@ fn push_got(text: &mut String, own: u16, stand: u16) -> Result<(), AllocError>
     ensures { OnOk result (string_bytes text.new ≡ string_bytes text.old ++ got_text own stand) }
 {
     if stand == own {
-        text.push_str("You keep your stand")?;
-        return Ok(());
+        return text.push_str("You keep your stand");
     }
-    push_word(text, "You get stand ", stand as usize)?;
-    Ok(())
+    push_word(text, "You get stand ", stand)
 }
 
 // Appends the lines before the ring.
 fn push_head(text: &mut String, own: u16, round: u16, stand: u16) -> Result<(), AllocError>
     ensures { OnOk result (string_bytes text.new ≡ string_bytes text.old ++ head_text own round stand) }
 {
-    push_word(text, "Trader ", own as usize)?;
+    push_word(text, "Trader ", own)?;
     text.push_str("\n")?;
     push_got(text, own, stand)?;
-    push_word(text, ", in round ", round as usize)?;
-    text.push_str(".\nRing: ")?;
-    Ok(())
+    push_word(text, ", in round ", round)?;
+    text.push_str(".\nRing: ")
 }
 
 // The next trader still fits on the line.
@@ -60,43 +54,41 @@ fn push_step(text: &mut String, column: usize, trader: u16) -> Result<usize, All
     ensures { IfOk result (λ c. (string_bytes text.new ≡ string_bytes text.old ++ step_text column trader) × (c ≡ step_column column trader) × (c ≤ 72)) }
 {
     if fits(column, trader) {
-        push_word(text, " -> ", trader as usize)?;
+        push_word(text, " -> ", trader)?;
         return Ok(column + 4 + width(trader));
     }
-    push_word(text, "\n-> ", trader as usize)?;
+    push_word(text, "\n-> ", trader)?;
     Ok(3 + width(trader))
 }
 
 // Appends the ring: the own trader, the others, and the own trader again.
+#[tactic(auto, unfolding(crate::specs::Page::ring_text, crate::specs::Page::steps_text))]
 fn push_ring(text: &mut String, paper: &[u8], own: u16) -> Result<(), AllocError>
     requires { own ≡ own_on paper.now }
     ensures { OnOk result (string_bytes text.new ≡ string_bytes text.old ++ ring_text paper.now) }
 {
     let members = number_at(paper, 6);
-    push_word(text, "", own as usize)?;
+    push_word(text, "", own)?;
     let mut column = 6 + width(own);
     for k in 1..members {
         column = push_step(text, column, number_at(paper, 8 + 2 * k as usize))?;
     }
     push_step(text, column, own)?;
-    text.push_str("\n")?;
-    Ok(())
+    text.push_str("\n")
 }
 
 // Appends why a dearer stand was not to be had.
 fn push_gone(text: &mut String, holder: u16, round: u16) -> Result<(), AllocError>
     ensures { OnOk result (string_bytes text.new ≡ string_bytes text.old ++ gone_text holder round) }
 {
-    match write!(
+    write!(
         text,
         "Stand {holder}, held by trader {holder}, was gone: they went out in round {round}.\n"
-    ) {
-        Ok(()) => Ok(()),
-        Err(_) => Err(AllocError),
-    }
+    )
 }
 
 // Appends a line for each dearer stand.
+#[tactic(auto, unfolding(crate::specs::Page::gone_lines))]
 fn push_lines(text: &mut String, paper: &[u8], members: u16) -> Result<(), AllocError>
     requires { members ≡ ring_length paper.now }
     ensures { OnOk result (string_bytes text.new ≡ string_bytes text.old ++ gone_lines paper.now (count_on paper.now)) }
@@ -111,14 +103,14 @@ fn push_lines(text: &mut String, paper: &[u8], members: u16) -> Result<(), Alloc
 }
 
 // Appends the page of a paper that was checked; bytes that are missing count as 0.
+#[tactic(auto, unfolding(crate::specs::Page::page_of))]
 pub fn push_page(text: &mut String, paper: &[u8]) -> Result<(), AllocError>
     ensures { OnOk result (string_bytes text.new ≡ string_bytes text.old ++ page_of paper.now) }
 {
     let own = number_at(paper, 0);
     push_head(text, own, number_at(paper, 2), number_at(paper, 4))?;
     push_ring(text, paper, own)?;
-    push_lines(text, paper, number_at(paper, 6))?;
-    Ok(())
+    push_lines(text, paper, number_at(paper, 6))
 }
 
 // No line of the page of a paper that passes is wider than 72 columns.

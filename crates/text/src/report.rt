@@ -1,9 +1,11 @@
 // The text that the program prints of an exchange's results.
-ghost use Rattle.std.specs.Prelude.{◌≡◌, ℕ, ◌-◌, not, List, ◌++◌, length, IfOk, string_bytes, OnOk, nat_lt};
-ghost use Rattle.text.specs.Report.{stand_got, keeps, more, moved, ring_on, ring_from, ring_text, line_of, lines_of, head_of, report_of, RingWritten};
+ghost use Rattle.std.specs.Prelude.{◌≡◌, ℕ, ◌^◌, ◌<◌, List, ◌++◌, length, string_bytes, OnOk};
+ghost use Rattle.std.specs.Iterator.{YieldsFirst, item_count};
+ghost use Rattle.text.specs.Report.{stand_got, more, moved, ring_on, ring_from, ring_text, line_of, lines_of, head_of, report_of, RingWritten};
 
 use crate::words::push_word;
 use std::alloc::AllocError;
+use std::marker::Model;
 
 // How many traders of a ring are written.
 const SHOWN: usize = 20;
@@ -12,93 +14,105 @@ const SHOWN: usize = 20;
 fn stand_got(results: &[u16], trader: usize) -> usize
     ensures { result ≡ stand_got results.now trader }
 {
-    if trader < results.len() {
-        results[trader] as usize
-    } else {
-        trader
+    results
+        .get(trader)
+        .map_or(trader, |&stand| usize::from(stand))
+}
+
+// The traders of a ring who are still to come: `next` first, at most `left` of them, until the next would be `home`.
+#[derive(Drop)]
+struct Ring<'a> {
+    results: &'a [u16],
+    home: usize,
+    left: usize,
+    next: usize,
+}
+
+impl<'a> Model for Ring<'a> {
+    ghost Value = { List ℕ };
+
+    ghost view = { λ s. ring_on s.results.now s.home s.left s.next };
+}
+
+impl<'a> Ring<'a> {
+    // The whole ring of a trader, from it on.
+    #[tactic(auto, using(crate::proofs::RingText::ring_few))]
+    fn new(results: &'a [u16], trader: usize) -> Ring<'a>
+        ensures ring { result ≡ ring_from results.now trader }
+        ensures fits { length result < 2 ^ 64 }
+    {
+        Ring {
+            results,
+            home: trader,
+            left: results.len(),
+            next: trader,
+        }
     }
 }
 
-// A trader keeps the own stand.
-fn keeps(results: &[u16], trader: usize) -> bool
-    ensures { result ≡ keeps results.now trader }
-{
-    stand_got(results, trader) == trader
-}
+impl<'a> Iterator for Ring<'a> {
+    type Item = usize;
 
-// A trader does not keep the own stand.
-fn moves(results: &[u16], trader: usize) -> bool
-    ensures { result ≡ not (keeps results.now trader) }
-{
-    !keeps(results, trader)
-}
+    ghost next_gives = { YieldsFirst (λ s. s) };
 
-// The traders at these places of a ring are written.
-fn is_written(place: usize) -> bool
-    ensures { result ≡ nat_lt place 20 }
-{
-    place < SHOWN
-}
+    ghost remaining = { item_count (λ s. s) };
 
-// How many of a ring are not written.
-fn left_out(length: usize) -> usize
-    ensures { result ≡ length - 20 }
-{
-    if length > SHOWN { length - SHOWN } else { 0 }
+    #[tactic(auto, unfolding(crate::specs::Report::ring_on))]
+    fn next(&mut self) -> Option<usize> {
+        self.left = self.left.checked_sub(1)?;
+        let trader = self.next;
+        self.next = stand_got(self.results, trader);
+        if self.next == self.home {
+            self.left = 0;
+        }
+        Some(trader)
+    }
 }
 
 // Appends how many of a ring are left out, if any are. Where memory fails nothing is said of the text, here and below.
-fn push_more(text: &mut String, rest: usize) -> Result<(), AllocError>
-    ensures { OnOk result (string_bytes text.new ≡ string_bytes text.old ++ more rest) }
+fn push_more(text: &mut String, left_out: Ring) -> Result<(), AllocError>
+    requires { length left_out < 2 ^ 64 }
+    ensures { OnOk result (string_bytes text.new ≡ string_bytes text.old ++ more (length left_out.entry)) }
 {
+    let rest = left_out.count();
     if rest == 0 {
         return Ok(());
     }
-    match write!(text, " and {rest} more") {
-        Ok(()) => Ok(()),
-        Err(_) => Err(AllocError),
-    }
-}
-
-// Appends the traders of a ring from one on, as far as they are written, and hands on how many there are.
-fn push_traders(
-    text: &mut String,
-    results: &[u16],
-    home: usize,
-    from: usize,
-) -> Result<usize, AllocError>
-    ensures { IfOk result (λ m. string_bytes text.new ++ more (m - 20) ≡ string_bytes text.old ++ ring_text (ring_on results.now home (length results.now) from)) }
-{
-    let mut at = from;
-    for place in 0..results.len() {
-        if is_written(place) {
-            push_word(text, " ", at)?;
-        }
-        at = stand_got(results, at);
-        if at == home {
-            return Ok(place + 1);
-        }
-    }
-    Ok(results.len())
+    write!(text, " and {rest} more")
 }
 
 // Appends the ring of a trader.
+#[tactic(auto, using(crate::proofs::RingText::one_written, crate::proofs::RingText::rest_written), unfolding(crate::specs::Report::ring_text, crate::specs::Report::spaced))]
 fn push_ring(text: &mut String, results: &[u16], trader: usize) -> Result<(), AllocError>
     ensures { OnOk result (string_bytes text.new ≡ string_bytes text.old ++ ring_text (ring_from results.now trader)) }
 {
-    let length = push_traders(text, results, trader, trader)?;
-    push_more(text, left_out(length))
+    let mut ring = Ring::new(results, trader);
+    // not `ring.by_ref().take(SHOWN)`: of what `take` leaves behind its last item the library says nothing
+    for _ in 0..SHOWN {
+        let Some(member) = ring.next() else {
+            return Ok(());
+        };
+        push_word(text, " ", member)?;
+    }
+    push_more(text, ring)
 }
 
-// Appends the line of a trader.
-fn push_line(text: &mut String, results: &[u16], trader: usize) -> Result<(), AllocError>
+// Appends the line of a trader, who has got this stand.
+#[tactic(auto, unfolding(crate::specs::Report::line_of))]
+fn push_line(
+    text: &mut String,
+    results: &[u16],
+    trader: usize,
+    stand: u16,
+) -> Result<(), AllocError>
+    requires { stand ≡ stand_got results.now trader }
     ensures { OnOk result (string_bytes text.new ≡ string_bytes text.old ++ line_of results.now trader) }
 {
     push_word(text, "trader ", trader)?;
-    if keeps(results, trader) {
+    if usize::from(stand) == trader {
         return text.push_str(" keeps\n");
     }
-    push_word(text, " gets ", stand_got(results, trader))?;
+    push_word(text, " gets ", stand)?;
     text.push_str(" ring")?;
     push_ring(text, results, trader)?;
     text.push_str("\n")
@@ -108,30 +122,30 @@ fn push_line(text: &mut String, results: &[u16], trader: usize) -> Result<(), Al
 fn moved(results: &[u16]) -> usize
     ensures { result ≡ moved results.now }
 {
-    let mut count = 0;
-    for i in 0..results.len() {
-        if moves(results, i) {
-            count += 1;
-        }
-    }
-    count
+    results
+        .iter()
+        .enumerate()
+        .filter(|&(trader, &stand)| usize::from(stand) != trader)
+        .count()
 }
 
 // Appends the first line.
+#[tactic(auto, unfolding(crate::specs::Report::head_of))]
 fn push_head(text: &mut String, rounds: u16, results: &[u16]) -> Result<(), AllocError>
     ensures { OnOk result (string_bytes text.new ≡ string_bytes text.old ++ head_of rounds results.now) }
 {
-    push_word(text, "rounds ", rounds as usize)?;
+    push_word(text, "rounds ", rounds)?;
     push_word(text, " moved ", moved(results))?;
     text.push_str("\n")
 }
 
-// Appends the line of each trader, behind what stands there: some text xs, and ys after it.
+// Appends the line of each trader.
+#[tactic(auto, unfolding(crate::specs::Report::lines_of))]
 fn push_lines(text: &mut String, results: &[u16]) -> Result<(), AllocError>
-    ensures { OnOk result ((xs ys : List ℕ) → string_bytes text.old ≡ xs ++ ys → string_bytes text.new ≡ xs ++ (ys ++ lines_of results.now (length results.now))) }
+    ensures { OnOk result (string_bytes text.new ≡ string_bytes text.old ++ lines_of results.now (length results.now)) }
 {
-    for trader in 0..results.len() {
-        push_line(text, results, trader)?;
+    for (trader, &stand) in results.iter().enumerate() {
+        push_line(text, results, trader, stand)?;
     }
     Ok(())
 }
@@ -151,7 +165,7 @@ pub fn ring_written()
 
 #[cfg(test)]
 mod tests {
-    use super::{push_line, push_report};
+    use super::push_report;
     use std::test::Fail;
 
     // 1 and 2 exchange their stands, in the second round
@@ -175,10 +189,11 @@ mod tests {
         }
         results.push(0)?;
         let mut text = String::new(rt.alloc());
-        push_line(&mut text, results.as_slice(), 10)?;
-        assert_eq!(rt;
-            text.as_str(),
-            "trader 10 gets 11 ring 10 11 12 13 14 15 16 17 18 19 20 21 22 23 24 25 26 0 1 2 and 7 more\n"
+        push_report(&mut text, 1, results.as_slice())?;
+        assert!(rt;
+            text.as_str().contains(
+                "\ntrader 10 gets 11 ring 10 11 12 13 14 15 16 17 18 19 20 21 22 23 24 25 26 0 1 2 and 7 more\n"
+            )
         );
         Ok(())
     }
