@@ -5,7 +5,7 @@ mod options;
 
 use agreement::Fault;
 use console::{Ended, MOST_LISTS, read_input, refusal_line};
-use lists::reading::MOST_TRADERS;
+use lists::reading::{MOST_STANDS, MOST_TRADERS};
 use options::{Command, Files, read_options};
 use refusals::Refusal;
 use sheet::checking::check;
@@ -14,8 +14,10 @@ use std::io;
 // The longest sheet that can be accepted; one byte more tells a file that is too long.
 const MOST_SHEET: u64 = 4 * MOST_TRADERS as u64 + 1;
 
-// The longest paper has 8 + 2 * 4000 + 1 + 4 * 40 bytes, and there are at most 4000.
-const MOST_PAPERS: u64 = 32_676_001;
+// As many papers as there can be, each with a ring of all traders and a full list of dearer stands; and again one byte more.
+const MOST_PAPERS: u64 = MOST_TRADERS as u64
+    * (8 + 2 * MOST_TRADERS as u64 + 1 + 4 * MOST_STANDS as u64)
+    + 1;
 
 // Reads a file, or tells why it cannot be read.
 fn read_named(rt: &HostRuntime, name: &str, most: u64) -> Result<Vec<u8>, Ended> {

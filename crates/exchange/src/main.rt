@@ -20,26 +20,28 @@ use std::alloc::{AllocError, Global};
 use text::pages::push_page;
 use text::report::push_report;
 
-// What an exchange has left in its slices, cut to the number of traders.
+// The bytes of a year, and what the exchange has left in its slices, cut to the number of traders.
 #[derive(Drop)]
 struct Year {
+    bytes: Vec<u8>,
     exchanged: Exchanged,
     results: Vec<u16>,
     sheet: Vec<u8>,
 }
 
 // Does the exchange, or tells the refusal; the lent slices have room for as many traders as there can be.
-fn exchange_year(rt: &HostRuntime, bytes: &[u8]) -> Result<Year, Ended> {
+fn exchange_year(rt: &HostRuntime, bytes: Vec<u8>) -> Result<Year, Ended> {
     let most = MOST_TRADERS as usize;
     let mut results = vec![in rt.alloc(); 0u16; most]?;
     let mut sheet = vec![in rt.alloc(); 0u8; 4 * most]?;
     let mut work = vec![in rt.alloc(); 0u16; 3 * most]?;
-    let exchanged = exchange(bytes, &mut results, &mut sheet, &mut work).or_else(
+    let exchanged = exchange(&bytes, &mut results, &mut sheet, &mut work).or_else(
         |refusal| tell_refusal(rt, refusal),
     )?;
     results.truncate(exchanged.traders as usize);
     sheet.truncate(4 * exchanged.traders as usize);
     Ok(Year {
+        bytes,
         exchanged,
         results,
         sheet,
@@ -62,12 +64,12 @@ fn report(heap: Global, year: &Year) -> Result<String, AllocError>
 }
 
 // The papers of all traders, one after another, in the order of their numbers.
-fn all_papers(heap: Global, bytes: &[u8], year: &Year) -> Result<Vec<u8>, AllocError> {
+fn all_papers(heap: Global, year: &Year) -> Result<Vec<u8>, AllocError> {
     let mut out = vec![in heap; 0u8; MOST_PAPER]?;
     let mut papers = Vec::new(heap);
     for trader in 0..year.exchanged.traders {
         // the exchange's own sheet is never refused, and there is room for the longest paper
-        if let Ok(size) = paper(bytes, &year.sheet, trader, &mut out)
+        if let Ok(size) = paper(&year.bytes, &year.sheet, trader, &mut out)
             && let Some(part) = out.get(..size)
         {
             papers.extend_from_slice(part)?;
@@ -95,19 +97,14 @@ fn all_pages(heap: Global, papers: &[u8], n: u16) -> Result<String, AllocError> 
 }
 
 // Writes the files that were asked for.
-fn write_files(
-    rt: &HostRuntime,
-    options: &Options,
-    bytes: &[u8],
-    year: &Year,
-) -> Result<(), Ended> {
+fn write_files(rt: &HostRuntime, options: &Options, year: &Year) -> Result<(), Ended> {
     if let Some(name) = &options.sheet {
         write_whole(rt, name, &year.sheet)?;
     }
     if options.paper_bytes.is_none() && options.pages.is_none() {
         return Ok(());
     }
-    let papers = all_papers(rt.alloc(), bytes, year)?;
+    let papers = all_papers(rt.alloc(), year)?;
     if let Some(name) = &options.paper_bytes {
         write_whole(rt, name, &papers)?;
     }
@@ -121,8 +118,8 @@ fn write_files(
 fn run(rt: &HostRuntime, options: &Options) -> Result<(), Ended> {
     let name = options.lists.as_deref().unwrap_or("-");
     let bytes = read_input(rt, name, MOST_LISTS).or_else(|e| tell_failure(rt, name, e))?;
-    let year = exchange_year(rt, &bytes)?;
-    write_files(rt, options, &bytes, &year)?;
+    let year = exchange_year(rt, bytes)?;
+    write_files(rt, options, &year)?;
     let text = report(rt.alloc(), &year)?;
     print!(rt; "{text}")?;
     Ok(())

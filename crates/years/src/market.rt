@@ -52,7 +52,7 @@ impl Year {
             .map_or(&[], |list| list.as_slice())
     }
 
-    // How many stands are dearer to a trader than a stand that is listed or the own one; the most there can be for all others.
+    // How many stands are dearer to a trader than one that is listed or its own; the highest number for all others.
     pub(crate) fn rank(&self, trader: u16, stand: u16) -> usize {
         self.list(trader)
             .iter()
@@ -118,7 +118,7 @@ pub(crate) fn all_lists(heap: Global, traders: u16, own: u16) -> Result<Vec<Vec<
     Ok(all)
 }
 
-// The lists with one stand more, of some stands those that are not listed already.
+// Each of the lists with one more of the stands at its end, where that is not listed already.
 fn longer_lists(
     heap: Global,
     lists: &[Vec<u16>],
