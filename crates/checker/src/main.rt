@@ -5,55 +5,40 @@ mod options;
 
 use agreement::Fault;
 use console::{Ended, MOST_LISTS, read_input, refusal_line};
-use options::{Command, Files};
+use lists::reading::{MOST_STANDS, MOST_TRADERS};
+use options::{Command, Files, read_options};
 use refusals::Refusal;
 use sheet::checking::check;
+use std::io;
 
-// The longest sheet has 4 * 4000 bytes.
-const MOST_SHEET: u64 = 16_001;
+// The longest sheet that can be accepted; one byte more tells a file that is too long.
+const MOST_SHEET: u64 = 4 * MOST_TRADERS as u64 + 1;
 
-// The longest paper has 8 + 2 * 4000 + 1 + 4 * 40 bytes, and there are at most 4000.
-const MOST_PAPERS: u64 = 32_676_001;
+// As many papers as there can be, each with a ring of all traders and a full list of dearer stands; and again one byte more.
+const MOST_PAPERS: u64 = MOST_TRADERS as u64
+    * (8 + 2 * MOST_TRADERS as u64 + 1 + 4 * MOST_STANDS as u64)
+    + 1;
 
-// Reads a file, or says why it cannot be read.
+// Reads a file, or tells why it cannot be read.
 fn read_named(rt: &HostRuntime, name: &str, most: u64) -> Result<Vec<u8>, Ended> {
-    match read_input(rt, name, most) {
-        Ok(bytes) => Ok(bytes),
-        Err(e) => {
-            eprintln!(rt; "check: {name}: {e}")?;
-            Err(Ended::Failed)
-        }
-    }
+    read_input(rt, name, most).or_else(|e| tell_failure(rt, name, e))
 }
 
-fn tell_refusal(rt: &HostRuntime, refusal: Refusal) -> Result<(), Ended> {
+fn tell_failure<T>(rt: &HostRuntime, name: &str, e: io::Error) -> Result<T, Ended> {
+    eprintln!(rt; "check: {name}: {e}")?;
+    Err(Ended::Failed)
+}
+
+fn tell_refusal<T>(rt: &HostRuntime, refusal: Refusal) -> Result<T, Ended> {
     let line = refusal_line(rt.alloc(), refusal)?;
     println!(rt; "{line}")?;
     Err(Ended::Refused)
 }
 
-fn check_sheet(rt: &HostRuntime, files: &Files) -> Result<(), Ended> {
-    let lists = read_named(rt, files.lists.as_str(), MOST_LISTS)?;
-    let sheet = read_named(rt, files.checked.as_str(), MOST_SHEET)?;
-    match check(lists.as_slice(), sheet.as_slice()) {
-        Ok(_) => {
-            println!(rt; "accepted")?;
-            Ok(())
-        }
-        Err(refusal) => tell_refusal(rt, refusal),
-    }
-}
-
-fn check_papers(rt: &HostRuntime, files: &Files) -> Result<(), Ended> {
-    let lists = read_named(rt, files.lists.as_str(), MOST_LISTS)?;
-    let papers = read_named(rt, files.checked.as_str(), MOST_PAPERS)?;
-    match agreement::check_papers(lists.as_slice(), papers.as_slice()) {
-        Ok(n) => {
-            println!(rt; "accepted {n} papers")?;
-            Ok(())
-        }
-        Err(Fault::Refused { refusal }) => tell_refusal(rt, refusal),
-        Err(Fault::Paper { trader, refusal }) => {
+fn tell_fault<T>(rt: &HostRuntime, fault: Fault) -> Result<T, Ended> {
+    match fault {
+        Fault::Refused { refusal } => tell_refusal(rt, refusal),
+        Fault::Paper { trader, refusal } => {
             let line = refusal_line(rt.alloc(), refusal)?;
             println!(rt; "paper of trader {trader}: {line}")?;
             Err(Ended::Refused)
@@ -61,17 +46,26 @@ fn check_papers(rt: &HostRuntime, files: &Files) -> Result<(), Ended> {
     }
 }
 
+fn check_sheet(rt: &HostRuntime, files: &Files) -> Result<(), Ended> {
+    let lists = read_named(rt, &files.lists, MOST_LISTS)?;
+    let sheet = read_named(rt, &files.checked, MOST_SHEET)?;
+    check(&lists, &sheet).or_else(|refusal| tell_refusal(rt, refusal))?;
+    println!(rt; "accepted")?;
+    Ok(())
+}
+
+fn check_papers(rt: &HostRuntime, files: &Files) -> Result<(), Ended> {
+    let lists = read_named(rt, &files.lists, MOST_LISTS)?;
+    let papers = read_named(rt, &files.checked, MOST_PAPERS)?;
+    let n = agreement::check_papers(&lists, &papers).or_else(|fault| tell_fault(rt, fault))?;
+    println!(rt; "accepted {n} papers")?;
+    Ok(())
+}
+
 fn main(rt: HostRuntime) -> Result<(), Ended> {
-    match options::read_options(&rt)? {
-        Command::Help => {
-            print!(rt; "{}", options::USAGE)?;
-            Ok(())
-        }
-        Command::Wrong => {
-            eprint!(rt; "{}", options::USAGE)?;
-            Err(Ended::Failed)
-        }
-        Command::Sheet(files) => check_sheet(&rt, &files),
-        Command::Papers(files) => check_papers(&rt, &files),
+    match read_options(&rt)? {
+        Some(Command::Sheet(files)) => check_sheet(&rt, &files),
+        Some(Command::Papers(files)) => check_papers(&rt, &files),
+        None => Ok(()),
     }
 }

@@ -23,41 +23,41 @@ pub struct Files {
 
 #[derive(Drop)]
 pub enum Command {
-    Help,
-    Wrong,
     Sheet(Files),
     Papers(Files),
 }
 
-pub(crate) fn read_options(rt: &HostRuntime) -> Result<Command, Ended> {
+// What there is to check; None where the usage was asked for, which is then printed.
+pub(crate) fn read_options(rt: &HostRuntime) -> Result<Option<Command>, Ended> {
     let mut papers = false;
-    let mut first = None;
-    let mut second = None;
+    let (mut first, mut second) = (None, None);
     let mut words = env::args(rt)?;
     let _program = words.next();
     for word in words {
-        if word.as_str() == "--help" {
-            return Ok(Command::Help);
-        }
-        if word.as_str() == "--papers" {
-            papers = true;
-        } else if first.is_none() {
-            first = Some(word);
-        } else if second.is_none() {
-            second = Some(word);
-        } else {
-            return Ok(Command::Wrong);
-        }
-    }
-    match (first, second) {
-        (Some(lists), Some(checked)) => {
-            let files = Files { lists, checked };
-            if papers {
-                Ok(Command::Papers(files))
-            } else {
-                Ok(Command::Sheet(files))
+        match word.as_str() {
+            "--help" => {
+                print!(rt; "{}", USAGE)?;
+                return Ok(None);
             }
+            "--papers" => papers = true,
+            _ if first.is_none() => first = Some(word),
+            _ if second.is_none() => second = Some(word),
+            _ => return wrong(rt),
         }
-        _ => Ok(Command::Wrong),
     }
+    let (Some(lists), Some(checked)) = (first, second) else {
+        return wrong(rt);
+    };
+    let files = Files { lists, checked };
+    Ok(Some(if papers {
+        Command::Papers(files)
+    } else {
+        Command::Sheet(files)
+    }))
+}
+
+// The words say nothing that the program can do.
+fn wrong<T>(rt: &HostRuntime) -> Result<T, Ended> {
+    eprint!(rt; "{}", USAGE)?;
+    Err(Ended::Failed)
 }

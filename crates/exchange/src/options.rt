@@ -18,79 +18,47 @@ then 1.
 
 #[derive(Drop)]
 pub struct Options {
-    pub lists: String,
+    pub lists: Option<String>,
     pub sheet: Option<String>,
     pub pages: Option<String>,
     pub paper_bytes: Option<String>,
 }
 
-#[derive(Drop)]
-pub enum Command {
-    Help,
-    Wrong,
-    Run(Options),
-}
-
-// What the next word is for.
-#[derive(Clone, Copy)]
-enum Next {
-    Word,
-    Sheet,
-    Pages,
-    PaperBytes,
-}
-
-// The option whose file comes next, if the word is one.
-fn option_named(word: &str) -> Next {
-    if word == "--sheet" {
-        Next::Sheet
-    } else if word == "--papers" {
-        Next::Pages
-    } else if word == "--paper-bytes" {
-        Next::PaperBytes
-    } else {
-        Next::Word
-    }
-}
-
-pub(crate) fn read_options(rt: &HostRuntime) -> Result<Command, Ended> {
+// The options; None where the usage was asked for, which is then printed.
+pub(crate) fn read_options(rt: &HostRuntime) -> Result<Option<Options>, Ended> {
     let (mut lists, mut sheet, mut pages, mut paper_bytes) = (None, None, None, None);
-    let mut next = Next::Word;
     let mut words = env::args(rt)?;
     let _program = words.next();
-    for word in words {
-        let named = option_named(word.as_str());
-        match (next, named) {
-            (Next::Sheet, _) => sheet = Some(word),
-            (Next::Pages, _) => pages = Some(word),
-            (Next::PaperBytes, _) => paper_bytes = Some(word),
-            (Next::Word, Next::Word) => {
-                if word.as_str() == "--help" {
-                    return Ok(Command::Help);
-                }
-                if lists.is_some() {
-                    return Ok(Command::Wrong);
-                }
-                lists = Some(word);
+    while let Some(word) = words.next() {
+        let file = match word.as_str() {
+            "--sheet" => &mut sheet,
+            "--papers" => &mut pages,
+            "--paper-bytes" => &mut paper_bytes,
+            "--help" => {
+                print!(rt; "{}", USAGE)?;
+                return Ok(None);
             }
-            (Next::Word, option) => {
-                next = option;
+            _ if lists.is_none() => {
+                lists = Some(word);
                 continue;
             }
-        }
-        next = Next::Word;
+            _ => return wrong(rt),
+        };
+        let Some(name) = words.next() else {
+            return wrong(rt);
+        };
+        *file = Some(name);
     }
-    let Next::Word = next else {
-        return Ok(Command::Wrong);
-    };
-    let lists = match lists {
-        Some(name) => name,
-        None => String::from_str(rt.alloc(), "-")?,
-    };
-    Ok(Command::Run(Options {
+    Ok(Some(Options {
         lists,
         sheet,
         pages,
         paper_bytes,
     }))
+}
+
+// The words say nothing that the program can do.
+fn wrong<T>(rt: &HostRuntime) -> Result<T, Ended> {
+    eprint!(rt; "{}", USAGE)?;
+    Err(Ended::Failed)
 }

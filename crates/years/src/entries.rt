@@ -8,46 +8,49 @@ pub struct Entry {
     pub round: u16,
 }
 
-// The entries of a sheet.
-pub(crate) fn read_entries(heap: Global, sheet: &[u8]) -> Result<Vec<Entry>, AllocError> {
-    let mut entries = Vec::new(heap);
-    for bytes in sheet.chunks_exact(4) {
-        if let [a, b, c, d] = bytes {
-            let stand = u16::from_le_bytes([*a, *b]);
-            let round = u16::from_le_bytes([*c, *d]);
-            entries.push(Entry { stand, round })?;
+impl From<[u8; 4]> for Entry {
+    fn from([a, b, c, d]: [u8; 4]) -> Entry {
+        Entry {
+            stand: u16::from_le_bytes([a, b]),
+            round: u16::from_le_bytes([c, d]),
         }
     }
-    Ok(entries)
+}
+
+// The entries of a sheet.
+pub(crate) fn read_entries(heap: Global, sheet: &[u8]) -> Result<Vec<Entry>, AllocError> {
+    let (entries, _) = sheet.as_chunks();
+    entries.iter().copied().map(Entry::from).collect(heap)
 }
 
 // The sheet with these entries.
 pub(crate) fn write_entries(heap: Global, entries: &[Entry]) -> Result<Vec<u8>, AllocError> {
     let mut sheet = Vec::new(heap);
-    for entry in entries.iter() {
+    for entry in entries {
         sheet.extend_from_slice(&entry.stand.to_le_bytes())?;
         sheet.extend_from_slice(&entry.round.to_le_bytes())?;
     }
     Ok(sheet)
 }
 
-// The sheet in which one stand or round is changed to another value.
+// The entries of which one stand or round is changed to another value.
 pub(crate) fn damaged(
     heap: Global,
-    sheet: &[u8],
+    entries: &[Entry],
     chance: &mut Chance,
 ) -> Result<Vec<Entry>, AllocError> {
-    let mut entries = read_entries(heap, sheet)?;
-    let traders = (entries.len() & 0xffff) as u16;
-    let at = chance.below(traders) as usize;
+    let mut entries = Vec::from_slice(heap, entries)?;
+    let traders = u16::try_from(entries.len()).unwrap_or(u16::MAX);
+    let at = chance.below(traders);
     let value = drawn_value(traders, chance);
     let of_stand = chance.below(2) == 0;
-    if let Some(entry) = entries.get_mut(at) {
-        if of_stand {
-            entry.stand = another(entry.stand, value);
+    if let Some(entry) = entries.get_mut(at as usize) {
+        let field = if of_stand {
+            &mut entry.stand
         } else {
-            entry.round = another(entry.round, value);
-        }
+            &mut entry.round
+        };
+        *field = another(*field, value);
     }
     Ok(entries)
 }
@@ -72,31 +75,28 @@ fn another(was: u16, drawn: u16) -> u16 {
 }
 
 // Lets a trader go out a round earlier, and hands on the stand that it got; None where it went out in the first round.
-fn go_earlier(entries: &mut Vec<Entry>, trader: u16) -> Option<u16> {
+fn go_earlier(entries: &mut [Entry], trader: u16) -> Option<u16> {
     let entry = entries.get_mut(trader as usize)?;
-    if entry.round == 0 {
-        return None;
-    }
-    entry.round -= 1;
+    entry.round = entry.round.checked_sub(1)?;
     Some(entry.stand)
 }
 
-// The sheet in which a trader and all on its ring went out a round earlier; None for those of the first round.
+// The entries by which a trader and all on its ring went out a round earlier; None for those of the first round.
 pub(crate) fn earlier(
     heap: Global,
-    sheet: &[u8],
+    entries: &[Entry],
     trader: u16,
 ) -> Result<Option<Vec<Entry>>, AllocError> {
-    let mut entries = read_entries(heap, sheet)?;
+    let mut entries = Vec::from_slice(heap, entries)?;
     let mut at = trader;
     for _ in 0..entries.len() {
         let Some(stand) = go_earlier(&mut entries, at) else {
             return Ok(None);
         };
-        at = stand;
-        if at == trader {
+        if stand == trader {
             return Ok(Some(entries));
         }
+        at = stand;
     }
     Ok(None)
 }

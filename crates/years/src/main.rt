@@ -14,8 +14,8 @@ use chances::Chance;
 use market::Year;
 use std::alloc::{AllocError, Global};
 use std::io;
-use tallies::{Count, Tally, print_table};
-use trials::{run, try_year};
+use tallies::{Tally, print_table};
+use trials::{Trial, try_year};
 
 const SEED: u64 = 20_260_101;
 
@@ -26,19 +26,16 @@ const YEARS: u16 = 1000;
 
 // The exchange gives the results and rounds that were worked out.
 fn is_as_worked(heap: Global, year: &Year, worked: &Worked) -> Result<bool, AllocError> {
-    let bytes = year.bytes(heap)?;
-    match run(heap, bytes.as_slice(), year.traders())? {
-        Some(outcome) => Ok(outcome.is(worked.results, worked.rounds)),
-        None => Ok(false),
-    }
+    let trial = Trial::run(heap, year)?;
+    Ok(trial.is_some_and(|trial| trial.is(worked.results, worked.rounds)))
 }
 
 fn worked_years(heap: Global, chance: &mut Chance) -> Result<Tally, AllocError> {
-    let mut tally = Tally::new();
-    for worked in TABLE.iter() {
+    let mut tally = Tally::default();
+    for worked in &TABLE {
         let year = Year::of(heap, worked.lists)?;
         if !is_as_worked(heap, &year, worked)? {
-            tally.add(Count::UnlikeWorked, 1);
+            tally.unlike_worked += 1;
         }
         try_year(heap, &year, chance, &mut tally)?;
     }
@@ -46,7 +43,7 @@ fn worked_years(heap: Global, chance: &mut Chance) -> Result<Tally, AllocError> 
 }
 
 fn random_years(heap: Global, traders: u16, chance: &mut Chance) -> Result<Tally, AllocError> {
-    let mut tally = Tally::new();
+    let mut tally = Tally::default();
     for _ in 0..YEARS {
         let year = Year::random(heap, traders, chance)?;
         try_year(heap, &year, chance, &mut tally)?;
@@ -58,8 +55,8 @@ fn main(rt: HostRuntime) -> io::Result<()> {
     let heap = rt.alloc();
     let mut chance = Chance::new(SEED);
     let mut tallies = vec![in heap; worked_years(heap, &mut chance)?]?;
-    for traders in 1..MOST_TRADERS + 1 {
+    for traders in 1..=MOST_TRADERS {
         tallies.push(random_years(heap, traders, &mut chance)?)?;
     }
-    print_table(&rt, tallies.as_slice())
+    print_table(&rt, &tallies)
 }

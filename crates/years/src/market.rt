@@ -1,12 +1,10 @@
 // A year of few traders, with their lists.
 use crate::chances::Chance;
 use std::alloc::{AllocError, Global};
+use std::iter::once;
 
 // How often a stand is drawn for a random list.
 const DRAWS: u8 = 16;
-
-// Years of up to four traders have at most this many lists for one trader: 1 + 3 + 6 + 6.
-const MOST_LISTS: usize = 16;
 
 #[derive(Drop)]
 pub struct Year {
@@ -16,11 +14,11 @@ pub struct Year {
 impl Year {
     // The year with these lists.
     pub(crate) fn of(heap: Global, lists: &[&[u16]]) -> Result<Year, AllocError> {
-        let mut all = Vec::new(heap);
-        for list in lists.iter() {
-            all.push(Vec::from_slice(heap, list)?)?;
-        }
-        Ok(Year { lists: all })
+        let lists = lists
+            .iter()
+            .map(|list| Vec::from_slice(heap, list))
+            .try_collect(heap)?;
+        Ok(Year { lists })
     }
 
     // A year of that many traders with random lists.
@@ -29,37 +27,38 @@ impl Year {
         traders: u16,
         chance: &mut Chance,
     ) -> Result<Year, AllocError> {
-        let mut lists = Vec::new(heap);
-        for own in 0..traders {
-            lists.push(random_list(heap, traders, own, chance)?)?;
+        let lists = (0..traders)
+            .map(|own| random_list(heap, traders, own, chance))
+            .try_collect(heap)?;
+        Ok(Year { lists })
+    }
+
+    // The year in which a trader hands in another list.
+    pub(crate) fn with_list(&self, trader: u16, other: Vec<u16>) -> Result<Year, AllocError> {
+        let mut lists = self.lists.clone()?;
+        if let Some(list) = lists.get_mut(trader as usize) {
+            *list = other;
         }
         Ok(Year { lists })
     }
 
     pub(crate) fn traders(&self) -> u16 {
-        (self.lists.len() & 0xffff) as u16
+        u16::try_from(self.lists.len()).unwrap_or(u16::MAX)
     }
 
     pub(crate) fn list(&self, trader: u16) -> &[u16] {
-        match self.lists.get(trader as usize) {
-            Some(list) => list.as_slice(),
-            None => &[],
-        }
+        self.lists
+            .get(trader as usize)
+            .map_or(&[], |list| list.as_slice())
     }
 
-    // How many stands are dearer to a trader than a stand, if it is listed or the own one; one more for all others.
+    // How many stands are dearer to a trader than one that is listed or its own; the highest number for all others.
     pub(crate) fn rank(&self, trader: u16, stand: u16) -> usize {
-        let list = self.list(trader);
-        for (place, listed) in list.iter().enumerate() {
-            if *listed == stand {
-                return place;
-            }
-        }
-        if stand == trader {
-            list.len()
-        } else {
-            list.len().saturating_add(1)
-        }
+        self.list(trader)
+            .iter()
+            .chain(once(&trader))
+            .position(|dear| *dear == stand)
+            .unwrap_or(usize::MAX)
     }
 
     // The bytes of a trader's list by itself.
@@ -71,19 +70,8 @@ impl Year {
 
     // The bytes of the year.
     pub(crate) fn bytes(&self, heap: Global) -> Result<Vec<u8>, AllocError> {
-        self.bytes_with(heap, 0, self.list(0))
-    }
-
-    // The bytes of the year in which a trader hands in another list.
-    pub(crate) fn bytes_with(
-        &self,
-        heap: Global,
-        trader: u16,
-        other: &[u16],
-    ) -> Result<Vec<u8>, AllocError> {
         let mut bytes = Vec::from_slice(heap, &self.traders().to_le_bytes())?;
-        for own in 0..self.traders() {
-            let list = if own == trader { other } else { self.list(own) };
+        for list in &self.lists {
             push_list(&mut bytes, list)?;
         }
         Ok(bytes)
@@ -92,8 +80,8 @@ impl Year {
 
 // Adds the bytes of a list: its count and its stands.
 fn push_list(bytes: &mut Vec<u8>, list: &[u16]) -> Result<(), AllocError> {
-    bytes.push((list.len() & 0xff) as u8)?;
-    for stand in list.iter() {
+    bytes.push(u8::try_from(list.len()).unwrap_or(u8::MAX))?;
+    for stand in list {
         bytes.extend_from_slice(&stand.to_le_bytes())?;
     }
     Ok(())
@@ -110,7 +98,7 @@ fn random_list(
     let most = chance.below(traders) as usize;
     for _ in 0..DRAWS {
         let stand = chance.below(traders).min(chance.below(traders));
-        if list.len() < most && stand != own && !list.as_slice().contains(&stand) {
+        if list.len() < most && stand != own && !list.contains(&stand) {
             list.push(stand)?;
         }
     }
@@ -119,33 +107,30 @@ fn random_list(
 
 // Every list that a trader could hand in: all ways to name some of the other stands in some order.
 pub(crate) fn all_lists(heap: Global, traders: u16, own: u16) -> Result<Vec<Vec<u16>>, AllocError> {
+    let others: Vec<u16> = (0..traders).filter(|stand| *stand != own).collect(heap)?;
     let mut all = Vec::new(heap);
-    all.push(Vec::new(heap))?;
-    for at in 0..MOST_LISTS {
-        for stand in 0..traders {
-            let longer = match all.get(at) {
-                Some(list) => with_stand(heap, list, own, stand)?,
-                None => None,
-            };
-            if let Some(longer) = longer {
-                all.push(longer)?;
-            }
-        }
+    let mut longest = vec![in heap; Vec::new(heap)]?;
+    for _ in 0..traders {
+        let longer = longer_lists(heap, &longest, &others)?;
+        all.append(&mut longest)?;
+        longest = longer;
     }
     Ok(all)
 }
 
-// The list with one more stand, where that is neither the own one nor listed already.
-fn with_stand(
+// Each of the lists with one more of the stands at its end, where that is not listed already.
+fn longer_lists(
     heap: Global,
-    list: &Vec<u16>,
-    own: u16,
-    stand: u16,
-) -> Result<Option<Vec<u16>>, AllocError> {
-    if stand == own || list.as_slice().contains(&stand) {
-        return Ok(None);
+    lists: &[Vec<u16>],
+    stands: &[u16],
+) -> Result<Vec<Vec<u16>>, AllocError> {
+    let mut all = Vec::new(heap);
+    for list in lists {
+        for stand in stands.iter().filter(|&stand| !list.contains(stand)) {
+            let mut longer = list.clone()?;
+            longer.push(*stand)?;
+            all.push(longer)?;
+        }
     }
-    let mut longer = Vec::from_slice(heap, list.as_slice())?;
-    longer.push(stand)?;
-    Ok(Some(longer))
+    Ok(all)
 }
