@@ -1,9 +1,8 @@
--- How the stand pointed to is found a place at a time, and that it is the exchange's.
-use Rattle.std.proofs.Common.{◌≡◌, ℕ, zero, suc, ◌+◌, ◌*◌, ◌<◌, false, cond, eqb, List, [], ◌∷◌, length, get_or, drop, sym, refl, ap, ◌∙◌, inl, inr, add-one, arith, length-drop}
+-- That the stand pointed to is the exchange's.
+use Rattle.std.proofs.Common.{◌≡◌, ℕ, zero, suc, ◌+◌, ◌<◌, ◌≤◌, false, eqb, List, [], ◌∷◌, length, get_or, refl, inl, inr, arith}
 use Rattle.std.proofs.lemmas.Bool.{cases_Bool, cases_lt, le-ltb, lt-ltb}
 use Rattle.std.proofs.lemmas.List.{get_or_past}
-use Rattle.lists.specs.Format.{number_at, numbers}
-use Rattle.lists.proofs.Positions.{numbers_none, numbers_step}
+use Rattle.lists.specs.Format.{numbers}
 use Rattle.theory.specs.Trade.{Standing, is_in, first_in}
 use Rattle.pointing.specs.declared.Pointing.{Pointing}
 use Rattle.pointing.specs.declared.Pointing.TheVariants.{Listed, Own}
@@ -17,30 +16,12 @@ holder_is inside t =
       | inr past ↦ rw (le-ltb t (length inside) past, get_or_past inside t 0 past)
     ]
 
--- one place of the list
-abbrev pub Step : List ℕ → List ℕ → ℕ → Pointing → Type 0
-Step inside xs p whole =
-    2 * p + 1 < length xs →
-    whole
-    ≡ cond (holder_in inside (number_at xs (2 * p))) (Listed p (number_at xs (2 * p)))
-    (points_from inside (numbers (drop (2 * (p + 1)) xs)) (p + 1))
-
-module _ (inside xs : List ℕ) (p : ℕ) (whole : Pointing) (so_far : points_from inside (numbers (drop (2 * p) xs)) p ≡ whole) where
-  pub step : Step inside xs p whole
-  unfolding points_from
-  step h = sym so_far ∙ (ap (λ ts. points_from inside ts p) (numbers_step xs p h) ∙ rw (add-one p))
-
-  pub end : length xs < 2 * p + 2 → whole ≡ Own
-  unfolding points_from
-  end h =
-      let few : length (drop (2 * p) xs) < 2 = rw length-drop (omega arith) in
-      sym so_far ∙ rw (numbers_none (drop (2 * p) xs) few)
-
-pub next : (inside xs : List ℕ) (p t : ℕ) (whole : Pointing) → Step inside xs p whole → 2 * p + 1 < length xs →
-    t ≡ number_at xs (2 * p) → holder_in inside t ≡ false → points_from inside (numbers (drop (2 * (p + 1)) xs)) (p + 1) ≡ whole
-next inside xs p t whole st h is e =
-    let e' : holder_in inside (number_at xs (2 * p)) ≡ false = rw is at e in
-    sym (st h ∙ rw e')
+-- each number has bytes of its own
+pub no_more_numbers : (xs : List ℕ) → length (numbers xs) ≤ length xs
+unfolding numbers
+no_more_numbers [] = omega arith
+no_more_numbers (x ∷ []) = omega arith
+no_more_numbers (x ∷ y ∷ xs) = let ih = no_more_numbers xs in omega arith
 
 -- the stand pointed to is the exchange's
 pub exchange_points : (s : Standing) (ts : List ℕ) (own p : ℕ) → stand_of own (points_from s.inside ts p) ≡ first_in s ts own

@@ -5,7 +5,7 @@ ghost use Rattle.std.specs.Prelude.{◌≡◌};
 ghost use Rattle.lists.specs.Format.{numbers};
 ghost use Rattle.pointing.specs.Pointing.{holder_in, points_from, stand_of, FirstIsPointedTo};
 
-use lists::bytes::number_at;
+use lists::stands::Stands;
 
 // the mark of a trader who is in
 const IN: u16 = 1;
@@ -24,7 +24,7 @@ impl Pointing {
         ensures { result ≡ stand_of own self }
     {
         match self {
-            Pointing::Listed { place: _, stand } => stand,
+            Pointing::Listed { stand, .. } => stand,
             Pointing::Own => own,
         }
     }
@@ -34,15 +34,15 @@ impl Pointing {
 fn holder_in(inside: &[u16], stand: u16) -> bool
     ensures { result ≡ holder_in inside.now stand }
 {
-    (stand as usize) < inside.len() && inside[stand as usize] == IN
+    inside.get(stand as usize) == Some(&IN)
 }
 
 // What the trader with these bytes of a list points to. `inside` has 1 for each trader who is in.
+#[tactic(auto, unfolding(crate::specs::Pointing::points_from))]
 pub fn point_to(list: &[u8], inside: &[u16]) -> Pointing
     ensures { result ≡ points_from inside.now (numbers list.now) 0 }
 {
-    for place in 0..list.len() / 2 {
-        let stand = number_at(list, 2 * place);
+    for (place, stand) in Stands::of(list).enumerate() {
         if holder_in(inside, stand) {
             return Pointing::Listed { place, stand };
         }

@@ -1,4 +1,4 @@
+pub mod Changes
 pub mod Pointed
-pub mod Taken
 pub mod Stands
 pub mod Law

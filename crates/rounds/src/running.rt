@@ -1,11 +1,12 @@
 // The exchange over lent slices: round after round, until nobody is in.
-ghost use Rattle.std.specs.Prelude.{◌≡◌, ◌+◌, ◌*◌, ◌<◌, ◌≤◌, ◌++◌, length, take, drop, replicate, None, Ok};
-ghost use Rattle.lists.specs.Format.{fault, lists_of, number_at, unless};
+ghost use Rattle.std.specs.Prelude.{◌≡◌, ◌*◌, ◌<◌, ◌≤◌, ◌++◌, drop, length, not, replicate, take, Ok};
+ghost use Rattle.lists.specs.Format.{lists_of, unless};
 ghost use Rattle.rings.specs.Ring.{answer, left_by};
-ghost use Rattle.rounds.specs.Run.{exchanged, results_left, run_fault, work_left};
-ghost use Rattle.rounds.specs.Turn.{AllPointed, flagged_at, one_pointed, one_out};
+ghost use Rattle.theory.specs.Trade.{none_in, round_count};
+ghost use Rattle.rounds.specs.Run.{exchanged, outs_of, results_left, results_of, room_fault, run_fault, work_left};
+ghost use Rattle.rounds.specs.Turn.{all_pointed, one_pointed};
 
-use lists::reading::{list_at, read};
+use lists::year::{List, Year};
 use pointing::point_to;
 use refusals::{Lent, Refusal};
 use rings::mark_rings;
@@ -18,8 +19,6 @@ const OUT: u16 = 0;
 // The flag of a trader on a ring.
 const RING: u16 = 1;
 
-const NO_FLAG: u16 = 0;
-
 // How many took part, and in how many rounds all went out.
 #[derive(Clone, Copy, PartialEq, Eq, Debug)]
 pub struct Exchanged {
@@ -30,130 +29,115 @@ pub struct Exchanged {
 // Does the exchange of a year with n traders. `results` gets the stand that each trader has at the end, in its first n entries.
 // `work` has 3 n entries of use: who is in (all 0 at the end), the flags of those on rings (all 0 at the end), and the round,
 // from 0, in which each trader went out. A refusal changes nothing that is lent.
+#[tactic(auto, using(lists::proofs::Positions::count_of_lists, lists::proofs::Accepted::some_traders))]
 pub fn run_rounds(bytes: &[u8], results: &mut [u16], work: &mut [u16]) -> Result<Exchanged, Refusal>
     ensures answer { result ≡ unless (run_fault bytes.now (length results.old) (length work.old)) (exchanged (lists_of bytes.now)) }
     ensures results { results.new ≡ results_left result (lists_of bytes.now) results.old }
     ensures work { work.new ≡ work_left result (lists_of bytes.now) work.old }
 {
-    let n = read(bytes)?;
-    if results.len() < n as usize {
+    let year = Year::read(bytes)?;
+    let n = year.traders() as usize;
+    check_room(n, results, work)?;
+    let (work, outs) = work.split_at_mut(2 * n);
+    let rounds = all_rounds(&year, &mut results[..n], work, &mut outs[..n])?;
+    Ok(Exchanged {
+        traders: year.traders(),
+        rounds,
+    })
+}
+
+// The lent slices have room for n traders.
+fn check_room(n: usize, results: &[u16], work: &[u16]) -> Result<(), Refusal>
+    ensures { result ≡ unless (room_fault n (length results.now) (length work.now)) tt }
+{
+    if results.len() < n {
         return Err(Refusal::TooShort {
             lent: Lent::Results,
         });
     }
-    if work.len() < 3 * n as usize {
+    if work.len() < 3 * n {
         return Err(Refusal::TooShort { lent: Lent::Work });
     }
-    all_rounds(bytes, n, results, work)
+    Ok(())
 }
 
-// The rounds of accepted lists, with room for them. `results` has where each trader who is in points, and so what it has got
-// once it is out.
+// The rounds of a year, and how many they are. `results` has where each trader who is in points, and so what it has got once it
+// is out; `work` has who is in, and the flags; `outs` gets the round in which each trader goes out.
+#[tactic(auto, using(crate::proofs::Stands::stands_start, crate::proofs::Stands::stands_bound, crate::proofs::Stands::count_at_end, crate::proofs::Stands::results_at_end, crate::proofs::Stands::outs_at_end))]
 fn all_rounds(
-    bytes: &[u8],
-    n: u16,
+    year: &Year,
     results: &mut [u16],
     work: &mut [u16],
-) -> Result<Exchanged, Refusal>
-    requires accepted { fault bytes.now ≡ None }
-    requires traders { n ≡ number_at bytes.now 0 }
-    requires results { n ≤ length results.old }
-    requires work { 3 * n ≤ length work.old }
-    ensures answer { result ≡ Ok (exchanged (lists_of bytes.now)) }
-    ensures results { results.new ≡ results_left result (lists_of bytes.now) results.old }
-    ensures work { work.new ≡ work_left result (lists_of bytes.now) work.old }
+    outs: &mut [u16],
+) -> Result<u16, Refusal>
+    requires traders { length year.now ≤ 4000 }
+    requires lengths { (length results.old ≡ length year.now) × (length work.old ≡ 2 * length year.now) × (length outs.old ≡ length year.now) }
+    ensures answer { result ≡ Ok (round_count year.now) }
+    ensures results { results.new ≡ results_of year.now }
+    ensures work { work.new ≡ replicate (2 * length year.now) 0 }
+    ensures outs { outs.new ≡ outs_of year.now }
 {
-    let size = n as usize;
-    let_all_in(work, size);
+    let n = results.len();
+    work[..n].fill(IN);
     let mut round = 0;
     'rounds: loop {
-        find_rings(bytes, n, results, work)?;
-        // how many are in after the round
-        let mut left = 0;
-        'traders: for i in 0..size {
-            if on_ring(work, size, i) {
-                take_out(work, size, i, round);
-                continue 'traders;
-            }
-            left += work[i];
-        }
-        round += 1;
-        if left == 0 {
+        if !somebody_in(&work[..n]) {
             break 'rounds;
         }
+        find_rings(year, results, work)?;
+        let (inside, flags) = work.split_at_mut(n);
+        'traders: for (i, flag) in flags.iter().enumerate() {
+            if *flag != RING {
+                continue 'traders;
+            }
+            inside[i] = OUT;
+            outs[i] = round;
+        }
+        round += 1;
     }
-    Ok(Exchanged {
-        traders: n,
-        rounds: round,
-    })
+    // nobody is in any more, and the flags are cleared
+    work.fill(0);
+    Ok(round)
 }
 
-// Everybody is in.
-fn let_all_in(work: &mut [u16], n: usize)
-    requires { n ≤ length work.old }
-    ensures { work.new ≡ replicate n 1 ++ drop n work.old }
+// Some of these traders are in.
+fn somebody_in(inside: &[u16]) -> bool
+    ensures { result ≡ not (none_in inside.now) }
 {
-    work[0..n].fill(IN);
+    inside.contains(&IN)
 }
 
 // Everybody who is in points, and only then are the rings looked for: who is on one, and so gets what, is by what all point to.
-fn find_rings(bytes: &[u8], n: u16, results: &mut [u16], work: &mut [u16]) -> Result<(), Refusal>
-    requires accepted { fault bytes.now ≡ None }
-    requires traders { n ≡ number_at bytes.now 0 }
-    requires results { n ≤ length results.old }
-    requires work { 3 * n ≤ length work.old }
-    ensures pointed { AllPointed (lists_of bytes.now) n work.old results.old results.new }
-    ensures answer { result ≡ answer (take n results.new) work.old }
-    ensures work { work.new ≡ left_by result (take n results.new) work.old }
+fn find_rings(year: &Year, results: &mut [u16], work: &mut [u16]) -> Result<(), Refusal>
+    requires lengths { (length results.old ≡ length year.now) × (length work.old ≡ 2 * length year.now) }
+    ensures pointed { results.new ≡ all_pointed year.now 0 (take (length year.now) work.old) results.old }
+    ensures answer { result ≡ answer results.new work.old }
+    ensures work { work.new ≡ left_by result results.new work.old }
 {
-    point_all(bytes, n, work, results);
-    mark_rings(&results[0..n as usize], work)
+    point_all(year, &work[..results.len()], results);
+    mark_rings(results, work)
 }
 
 // Everybody who is in points: so nobody's going out changes what another points to in the same round.
-fn point_all(bytes: &[u8], n: u16, work: &[u16], results: &mut [u16])
-    requires accepted { fault bytes.now ≡ None }
-    requires traders { n ≡ number_at bytes.now 0 }
-    requires results { n ≤ length results.old }
-    requires work { 3 * n ≤ length work.now }
-    ensures { AllPointed (lists_of bytes.now) n work.now results.old results.new }
+#[tactic(auto, using(std::proofs::lemmas::List::nil_from_length), unfolding(crate::specs::Turn::all_pointed))]
+fn point_all(year: &Year, inside: &[u16], results: &mut [u16])
+    requires lengths { (length inside.now ≡ length year.now) × (length results.old ≡ length year.now) }
+    ensures { results.new ≡ all_pointed year.now 0 inside.now results.old }
 {
-    let mut at = 2;
-    'traders: for i in 0..n {
-        let list = list_at(bytes, at);
-        at += 1 + list.len();
-        point(list, n, i, work, results);
+    for (i, list) in (0..year.traders()).zip(year.lists()) {
+        point(&list, i, inside, results);
     }
 }
 
 // Trader i points, if it is in. Whoever is out keeps what it got.
-fn point(list: &[u8], n: u16, i: u16, work: &[u16], results: &mut [u16])
-    requires trader { i < n }
-    requires results { n ≤ length results.old }
-    requires work { 3 * n ≤ length work.now }
-    ensures { results.new ≡ one_pointed list.now n i work.now results.old }
+#[tactic(auto, using(lists::proofs::Encoding::stands_again))]
+fn point(list: &List, i: u16, inside: &[u16], results: &mut [u16])
+    requires trader { (i < length inside.now) × (i < length results.old) }
+    ensures { results.new ≡ one_pointed list.now i inside.now results.old }
 {
-    if work[i as usize] == IN {
-        results[i as usize] = point_to(list, &work[0..n as usize]).stand(i);
+    if inside[i as usize] == IN {
+        results[i as usize] = point_to(list.stand_bytes(), inside).stand(i);
     }
-}
-
-// Trader i is on a ring, as its flag says.
-fn on_ring(work: &[u16], n: usize, i: usize) -> bool
-    requires { n + i < length work.now }
-    ensures { result ≡ flagged_at work.now n i }
-{
-    work[n + i] == RING
-}
-
-// Trader i goes out in this round, and its flag is cleared.
-fn take_out(work: &mut [u16], n: usize, i: usize, round: u16)
-    requires { (i < n) × (3 * n ≤ length work.old) }
-    ensures { work.new ≡ one_out work.old n i round }
-{
-    work[i] = OUT;
-    work[n + i] = NO_FLAG;
-    work[2 * n + i] = round;
 }
 
 #[cfg(test)]

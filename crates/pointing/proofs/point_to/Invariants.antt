@@ -1,11 +1,10 @@
-use Rattle.std.proofs.Common.{◌≡◌, ◌*◌, drop}
+use Rattle.std.proofs.Common.{◌≡◌, ◌+◌, ◌≤◌, length}
 use Rattle.lists.specs.Format.{numbers}
 use Rattle.pointing.specs.Pointing.{points_from}
-use Rattle.pointing.proofs.Places.{Step}
 use Rattle.pointing.proofs.point_to.Given as goal
 
--- what is left of the list gives the same, and the step to come is known
+-- the stands that are left give the same, and there are no more places than bytes
 abbrev pub invariant-loop-place : goal.invariant-loop-place
 invariant-loop-place l =
-    (points_from l.inside (numbers (drop (2 * l.place) l.list)) l.place ≡ points_from l.inside (numbers l.list) 0)
-    × Step l.inside l.list l.place (points_from l.inside (numbers l.list) 0)
+    (points_from l.inside (numbers l.place-iterator.iter.bytes.now) l.place-iterator.count ≡ points_from l.inside (numbers l.list) 0)
+    × (l.place-iterator.count + length (numbers l.place-iterator.iter.bytes.now) ≤ length l.list)

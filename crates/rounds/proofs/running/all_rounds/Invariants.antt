@@ -1,19 +1,15 @@
-use Rattle.std.proofs.Common.{◌≡◌, ◌-◌}
-use Rattle.lists.specs.Format.{lists_of}
-use Rattle.rounds.proofs.Stands.{GoingOn, Stands}
-use Rattle.rounds.proofs.Taken.{Bits, Taken, still_in}
+use Rattle.std.proofs.Common.{◌-◌, length}
+use Rattle.rounds.proofs.Changes.{Changed}
+use Rattle.rounds.proofs.Stands.{Stands}
 use Rattle.rounds.proofs.running.all_rounds.Given as goal
 
 abbrev pub invariant-traders : goal.invariant-traders
 invariant-traders l =
-    Taken l.n l.round l.initial.work l.work l.i
-    × (l.left ≡ still_in l.work l.i)
-    × Bits l.work l.n
+    Changed l.flag-items 0 l.initial.inside l.inside l.i
+    × Changed l.flag-items l.round l.initial.outs l.outs l.i
 
 abbrev pub invariant-rounds : goal.invariant-rounds
-invariant-rounds l =
-    Stands (lists_of l.bytes) l.n l.round l.results l.work l.initial.results l.initial.work
-    × GoingOn (lists_of l.bytes) l.round
+invariant-rounds l = Stands l.year l.n l.round l.results l.work l.outs
 
 abbrev pub decreases-rounds : goal.decreases-rounds
-decreases-rounds l = l.n - l.round
+decreases-rounds l = length l.year - l.round
