@@ -4,7 +4,6 @@ use Rattle.std.proofs.lemmas.List.{take_at}
 use Rattle.std.proofs.lemmas.Bool.{cases_Bool, le-ltb, lt-ltb}
 use Rattle.std.specs.Option.{option_or}
 use Rattle.refusals.specs.declared.Refusal.{Refusal}
-use Rattle.lists.specs.Format as format
 use Rattle.lists.specs.Format.{fault, lists_of, number_at, unless}
 use Rattle.lists.proofs.Accepted.{accepted_encodable, no_fault_both}
 use Rattle.lists.proofs.Faults.{refused_fault}

@@ -1,10 +1,12 @@
 -- How the first fault of all traders is found a trader at a time.
-use Rattle.std.proofs.Common.{◌≡◌, ℕ, zero, suc, ◌+◌, ◌-◌, ◌<◌, ◌≤◌, Bool, true, false, ◌||◌, eqb, List, [], ◌∷◌, length, get_or, set, drop, replicate, Some, None, Option, sym, refl, ap, ◌∙◌, inl, inr, add-one, arith}
+use Rattle.std.proofs.Common.{◌≡◌, ℕ, zero, suc, ◌+◌, ◌<◌, ◌≤◌, Bool, true, false, List, [], ◌∷◌, length, get_or, set, drop, replicate, Some, None, Option, sym, refl, ap, ◌∙◌, inl, inr, add-one, arith}
 use Rattle.std.proofs.lemmas.Bool.{cases_eq, eq-eqb, ne_eqb}
 use Rattle.std.proofs.lemmas.List.{drop-drop, get_or-drop, get_or-set_other, get_or-set_same}
-use Rattle.std.specs.Option.{option_or}
 use Rattle.refusals.specs.declared.Refusal.{Refusal}
 use Rattle.theory.specs.Trade.{Lists}
+use Rattle.lists.specs.Format.{Begins, list_bytes}
+use Rattle.lists.proofs.Accepted.{begins_within, short_list}
+use Rattle.lists.proofs.Positions.{length_of_part}
 use Rattle.sheet.specs.Sheet.{stand_in, got_before, entry_fault, trader_fault, traders_fault}
 use Rattle.sheet.proofs.Checked.{fine_trader}
 
@@ -68,3 +70,10 @@ module _ (ls ts us : Lists) (i : ℕ) (l : List ℕ) (left : ts ≡ drop i ls) (
       entry_fault sheet n i l again ≡ trader_fault ls sheet i
   unfolding trader_fault
   trader_is sheet n again count before = rw (count, before, list_here)
+
+-- the list of trader i, which begins at byte `at` of accepted bytes, has at most 40 stands
+pub few_stands : (bs : List ℕ) (i at : ℕ) → Begins bs i at → length (list_bytes bs at) ≤ 80
+few_stands bs i at begins =
+    let few : get_or bs at 0 ≤ 40 = rw begins.2 (short_list bs begins.0 i begins.1) in
+    let long = length_of_part bs at (begins_within bs i at begins) in
+    omega arith

@@ -22,12 +22,7 @@ fn check_length(sheet: &[u8], n: u16) -> Result<(), Refusal>
 }
 
 // The stand that a trader got exists, and no trader before got it. `taken` tells the stands that were got before.
-fn check_taken(
-    sheet: &[u8],
-    n: u16,
-    trader: u16,
-    taken: &[bool; 4000],
-) -> Result<(), Refusal>
+fn check_taken(sheet: &[u8], n: u16, trader: u16, taken: &[bool; 4000]) -> Result<(), Refusal>
     requires { n ≤ 4000 }
     ensures { result ≡ unless (taken_fault sheet.now n trader (slice_index_or taken.now (stand_in sheet.now trader) false)) tt }
 {

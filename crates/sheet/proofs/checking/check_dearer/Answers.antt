@@ -1,4 +1,4 @@
-use Rattle.std.proofs.Common.{◌≡◌, ◌+◌, ◌-◌, ◌∙◌, inl, inr, length, ap, arith}
+use Rattle.std.proofs.Common.{◌≡◌, ◌∙◌, inl, inr, length, ap, arith}
 use Rattle.std.proofs.lemmas.List.{nil_from_length}
 use Rattle.std.proofs.lemmas.Result.{err_from_is_err_and}
 use Rattle.std.specs.Iterator.Adapters.{zip_first, zip_second}
@@ -31,6 +31,6 @@ loop-place-preserved c =
 pub returns : goal.returns
 returns c =
     let list = numbers (zip_second c.loop-place.place-iterator).bytes.now in
-    let none : length list ≡ 0 = elim c.in-None.ensures.steps [ | inl n ↦ omega arith | inr n ↦ ap length n.1.0 ] in
+    let none : length list ≡ 0 = elim c.in-None.ensures.steps [ inl n ↦ omega arith | inr n ↦ ap length n.1.0 ] in
     let end : (zip_first c.loop-place.place-iterator).start ≡ c.len-2.result = omega arith in
     c.check_own.ensures ∙ rw (dearer_end _ _ _ _ _ c.loop-place.invariant.so_far (nil_from_length list none), end)

@@ -1,4 +1,4 @@
-use Rattle.std.proofs.Common.{◌≡◌, ◌+◌, ◌-◌, ◌<◌, ◌∙◌, inl, inr, false, length, get_or, refl, sym, ap, arith, length-drop, length-set, rules}
+use Rattle.std.proofs.Common.{◌≡◌, ◌-◌, ◌<◌, ◌∙◌, inl, inr, false, length, sym, ap, arith, length-drop, length-set, rules}
 use Rattle.std.proofs.lemmas.List.{length-replicate}
 use Rattle.std.proofs.lemmas.Result.{err_from_is_err_and}
 use Rattle.std.specs.Iterator.Adapters.{zip_first, zip_second}
@@ -48,5 +48,5 @@ returns c =
     let left : length (zip_second c.loop-trader.trader-iterator) ≡ length c.args.year.now - (zip_first c.loop-trader.trader-iterator).start =
     ap length inv.left ∙ length-drop (zip_first c.loop-trader.trader-iterator).start c.args.year.now in
     let none : length c.args.year.now - (zip_first c.loop-trader.trader-iterator).start ≡ 0 =
-    elim c.in-None.ensures.steps [ | inl n ↦ omega arith | inr n ↦ (let none = ap length n.1.0 in omega arith) ] in
+    elim c.in-None.ensures.steps [ inl n ↦ omega arith | inr n ↦ (let none = ap length n.1.0 in omega arith) ] in
     rw (traders_done _ _ _ _ _ inv.so_far none)

@@ -10,5 +10,5 @@ invariant-loop-trader l = record {
   left : zip_second l.trader-iterator ≡ drop (zip_first l.trader-iterator).start l.year;
   end : (zip_first l.trader-iterator).end ≡ length l.year;
   marks : (t : ℕ) → get_or l.taken t false ≡ got_before l.sheet (zip_first l.trader-iterator).start t;
-  room : length l.taken ≡ 4000
+  room : length l.taken ≡ 4000;
 }
