@@ -1,7 +1,7 @@
 -- How the first fault of all traders is found a trader at a time.
-use Rattle.std.proofs.Common.{◌≡◌, ℕ, zero, suc, ◌+◌, ◌<◌, ◌≤◌, Bool, true, false, List, [], ◌∷◌, length, get_or, set, drop, replicate, Some, None, Option, sym, refl, ap, ◌∙◌, inl, inr, add-one, arith}
+use Rattle.std.proofs.Common.{◌≡◌, ℕ, zero, suc, ◌+◌, ◌<◌, ◌≤◌, Bool, true, false, List, [], ◌∷◌, length, get_or, set, drop, replicate, Some, None, Option, sym, refl, ◌∙◌, inl, inr, add-one, arith}
 use Rattle.std.proofs.lemmas.Bool.{cases_eq, eq-eqb, ne_eqb}
-use Rattle.std.proofs.lemmas.List.{drop-drop, get_or-drop, get_or-set_other, get_or-set_same}
+use Rattle.std.proofs.lemmas.List.{get_or-set_other, get_or-set_same}
 use Rattle.refusals.specs.declared.Refusal.{Refusal}
 use Rattle.theory.specs.Trade.{Lists}
 use Rattle.lists.specs.Format.{Begins, list_bytes}
@@ -9,6 +9,7 @@ use Rattle.lists.proofs.Accepted.{begins_within, short_list}
 use Rattle.lists.proofs.Positions.{length_of_part}
 use Rattle.sheet.specs.Sheet.{stand_in, got_before, entry_fault, trader_fault, traders_fault}
 use Rattle.sheet.proofs.Checked.{fine_trader}
+use Rattle.sheet.proofs.Rest.{rest_here}
 
 -- one trader, and the end
 module _ (ls : Lists) (sheet : List ℕ) (i left : ℕ) (whole : Option Refusal) (so_far : traders_fault ls sheet i left ≡ whole) where
@@ -55,21 +56,11 @@ taken_more sheet taken i got is h m t =
       | inr ne ↦ rw (add-one i, ← is, ne_eqb got t (λ e. ne (sym e))) (get_or-set_other taken got t true false ne ∙ m t)
     ]
 
--- the lists ts that are left, from trader i on: the list of that trader, and the others
-module _ (ls ts us : Lists) (i : ℕ) (l : List ℕ) (left : ts ≡ drop i ls) (more : ts ≡ l ∷ us) where
-  pub list_next : us ≡ drop (i + 1) ls
-  list_next = ap (drop 1) (sym more ∙ left) ∙ drop-drop 1 i ls
-
-  pub list_here : get_or ls i [] ≡ l
-  list_here =
-      let at : i + 0 ≡ i = omega arith in
-      rw at at (sym (get_or-drop i ls 0 [])) ∙ ap (λ xs. get_or xs 0 []) (sym left ∙ more)
-
-  -- what is checked of trader i
-  pub trader_is : (sheet : List ℕ) (n : ℕ) (again : Bool) → n ≡ length ls → again ≡ got_before sheet i (stand_in sheet i) →
-      entry_fault sheet n i l again ≡ trader_fault ls sheet i
-  unfolding trader_fault
-  trader_is sheet n again count before = rw (count, before, list_here)
+-- what is checked of trader i, whose list is the first of those that are left
+pub trader_is : (ls rest others : Lists) (i : ℕ) (l : List ℕ) → rest ≡ drop i ls → rest ≡ l ∷ others → (sheet : List ℕ) (n : ℕ) (again : Bool) →
+    n ≡ length ls → again ≡ got_before sheet i (stand_in sheet i) → entry_fault sheet n i l again ≡ trader_fault ls sheet i
+unfolding trader_fault
+trader_is ls rest others i l left more sheet n again count before = rw (count, before, rest_here ls rest others i l left more [])
 
 -- the list of trader i, which begins at byte `at` of accepted bytes, has at most 40 stands
 pub few_stands : (bs : List ℕ) (i at : ℕ) → Begins bs i at → length (list_bytes bs at) ≤ 80

@@ -1,11 +1,9 @@
 // A sheet that was accepted for the lists of a year.
 ghost use Rattle.std.specs.Prelude.{◌≡◌, ◌<◌, ◌≤◌, length};
-ghost use Rattle.lists.specs.Format.{unless};
-ghost use Rattle.sheet.specs.Sheet.{ring_of, round_in, sheet_fault, stand_in};
+ghost use Rattle.sheet.specs.Sheet.{ring_of, round_in, stand_in};
 
 use crate::entries::{round_in, stand_in};
 use lists::year::Year;
-use refusals::Refusal;
 use std::marker::Model;
 
 // The sheet, with the year whose lists it was checked against.
@@ -62,8 +60,8 @@ impl<'a> AcceptedSheet<'a> {
         round_in(self.bytes, trader)
     }
 
-    #[tactic(auto, using(crate::proofs::Rings::ring_most))]
     // The traders of a trader's ring: the trader first, and after each the holder of the stand that it got.
+    #[tactic(auto, using(crate::proofs::Rings::ring_most))]
     pub fn ring(&self, trader: u16) -> Ring<'a>
         ensures ring { result ≡ ring_of self.now.bytes (length self.now.lists) trader }
         ensures most { length result ≤ length self.now.lists }

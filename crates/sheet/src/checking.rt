@@ -121,8 +121,8 @@ impl<'a> AcceptedSheet<'a> {
     }
 }
 
-#[tactic(auto, using(crate::proofs::Checked::checked, lists::proofs::Positions::count_of_lists))]
 // Checks a sheet against the lists of a year: the number of traders, or the first fault.
+#[tactic(auto, using(crate::proofs::Checked::checked, lists::proofs::Positions::count_of_lists))]
 pub fn check(bytes: &[u8], sheet: &[u8]) -> Result<u16, Refusal>
     ensures answer { result ≡ unless (check_fault bytes.now sheet.now) (number_at bytes.now 0) }
     ensures says { Checked bytes.now sheet.now result }

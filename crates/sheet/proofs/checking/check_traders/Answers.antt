@@ -4,7 +4,8 @@ use Rattle.std.proofs.lemmas.Result.{err_from_is_err_and}
 use Rattle.std.specs.Iterator.Adapters.{zip_first, zip_second}
 use Rattle.lists.proofs.Faults.{no_fault, refused_fault}
 use Rattle.sheet.specs.Sheet.{stand_in}
-use Rattle.sheet.proofs.Traders.{stand_below, list_next, taken_more, taken_none, trader_is, traders_done, traders_next, traders_wrong}
+use Rattle.sheet.proofs.Rest.{rest_next}
+use Rattle.sheet.proofs.Traders.{stand_below, taken_more, taken_none, trader_is, traders_done, traders_next, traders_wrong}
 use Rattle.sheet.proofs.checking.check_traders.Goals as goal
 
 pub loop-trader-init : goal.loop-trader-init
@@ -36,7 +37,7 @@ loop-trader-preserved c =
     let room : c.stand_in.result < length c.loop-trader.taken = omega arith in
     record {
       so_far = rw steps.0.1.2 (traders_next _ _ _ _ _ inv.so_far _ (omega arith) right);
-      left = rw steps.0.1.2 (list_next c.args.year.now _ _ _ _ inv.left steps.1);
+      left = rw steps.0.1.2 (rest_next c.args.year.now _ _ _ _ inv.left steps.1);
       end = omega arith;
       marks = rw steps.0.1.2 (taken_more c.args.sheet.now c.loop-trader.taken _ _ got room inv.marks);
       room = rw length-set inv.room;
