@@ -1,13 +1,13 @@
 -- A paper shows one trader what it got, the ring by which it got it, and that nobody passed it over. All numbers have two
 -- bytes, low byte first, but for the count of the dearer stands, which has one.
-use Rattle.std.specs.Prelude.{ℕ, zero, suc, ◌+◌, ◌*◌, cond, List, [], ◌∷◌, ◌++◌, length, take, drop, Some, None, Ok, Err, Option, Result, ◌==◌, nat_lt, slice_index, slice_index_or}
+use Rattle.std.specs.Prelude.{ℕ, ◌+◌, ◌*◌, cond, List, [], ◌∷◌, ◌++◌, length, take, drop, Some, None, Ok, Err, Option, Result, ◌==◌, nat_lt, slice_index, slice_index_or}
 use Rattle.std.specs.Option.{option_or}
 use Rattle.refusals.specs.declared.Lent.TheVariants.{Results}
 use Rattle.refusals.specs.declared.Refusal.{Refusal}
 use Rattle.refusals.specs.declared.Refusal.TheVariants.{PaperFault, TooShort}
 use Rattle.lists.specs.Format.{bytes_of, encode_stands, lists_of, number_at}
 use Rattle.theory.specs.Trade.{Lists}
-use Rattle.sheet.specs.Sheet.{check_fault, round_in, stand_in}
+use Rattle.sheet.specs.Sheet.{check_fault, ring_of, round_in, stand_in}
 
 -- ---- what stands on a paper, by the bytes
 
@@ -43,15 +43,6 @@ abbrev pub gone_on : List ℕ → ℕ → ℕ
 gone_on paper j = number_at paper (count_place paper + 3 + 4 * j)
 
 -- ---- the paper of a trader, by the lists and a sheet
-
--- the traders from t on, each followed by the holder of the stand that it got, until trader own comes next; at most k
-unfoldable pub ring_from : List ℕ → ℕ → ℕ → ℕ → List ℕ
-ring_from sheet own zero t = []
-ring_from sheet own (suc k) t = t ∷ cond (stand_in sheet t == own) [] (ring_from sheet own k (stand_in sheet t))
-
--- the ring of trader i, among n traders
-abbrev pub ring_of : List ℕ → ℕ → ℕ → List ℕ
-ring_of sheet n i = ring_from sheet i n i
 
 -- the stands of a list that are dearer than stand t: those before it
 unfoldable pub dearer_than : ℕ → List ℕ → List ℕ

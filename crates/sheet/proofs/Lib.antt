@@ -4,3 +4,5 @@ pub mod Checked
 pub mod Dearer
 pub mod Traders
 pub mod Written
+pub mod Rest
+pub mod Rings

@@ -1,26 +1,21 @@
 -- The promise of the public exchange, from the theory of the exchange and from what was written.
-use Rattle.std.proofs.Common.{◌≡◌, ℕ, zero, suc, ◌+◌, ◌*◌, ◌<◌, ◌≤◌, List, [], ◌++◌, length, get_or, drop, set, replicate, None, Err, Result, sym, refl, ap, ◌∙◌, append_assoc, arith, length-append}
+use Rattle.std.proofs.Common.{◌≡◌, ℕ, zero, suc, ◌+◌, ◌*◌, ◌<◌, ◌≤◌, List, [], ◌++◌, length, get_or, drop, set, replicate, None, sym, refl, ap, ◌∙◌, arith}
 use Rattle.std.specs.List.{range_with_len, flat_map}
-use Rattle.refusals.specs.declared.Refusal.{Refusal}
-use Rattle.rounds.specs.declared.running.Exchanged.{Exchanged}
-use Rattle.std.proofs.lemmas.Bool.{le-ltb, lt-ltb, ltb-true}
-use Rattle.std.proofs.lemmas.List.{get_or_append_left, set-get_or, length-replicate, drop_at}
-use Rattle.std.proofs.lemmas.List.FromFn.{length-map-range_with_len}
-use Rattle.lists.specs.Format.{bytes_of, fault, lists_of, number_at, unless}
+use Rattle.std.proofs.lemmas.Bool.{lt-ltb, ltb-true}
+use Rattle.std.proofs.lemmas.List.{get_or_append_left, set-get_or, append-nil, drop_all}
+use Rattle.lists.specs.Format.{bytes_of, fault, lists_of, number_at}
 use Rattle.theory.specs.Promise.{rank}
 use Rattle.theory.specs.Trade.{Lists, out, result}
 use Rattle.lists.proofs.Accepted.{accepted_proper}
 use Rattle.lists.proofs.Encoding.{writes_what_was_read}
-use Rattle.lists.proofs.Faults.{refused_fault}
 use Rattle.theory.proofs.Certificates.{turns}
 use Rattle.theory.proofs.Exchange.{certificate}
 use Rattle.theory.proofs.Finite.{preimage}
 use Rattle.theory.proofs.Promises.{result_apart, result_below, result_own, result_truthful, result_unbettered}
 use Rattle.rounds.proofs.Law.{out_at, result_at}
-use Rattle.rounds.specs.Run.{outs_of, results_of, run_fault}
-use Rattle.sheet.specs.Exchange.{Promised, entries, exchange_fault}
+use Rattle.rounds.specs.Run.{outs_of, results_of}
+use Rattle.sheet.specs.Exchange.{Promised, entries}
 use Rattle.sheet.specs.Sheet.{entry, sheet_of}
-use Rattle.sheet.proofs.Checked.{some_not_none}
 use Rattle.sheet.proofs.Written.{length_sheet, round_written, stand_written}
 
 -- a number within the front of what was written
@@ -82,39 +77,17 @@ promised bs xs ys bytes accepted =
       no_gain = λ i other h _. rw (at i h) (no_gain ls i other h);
     }
 
--- accepted lists, with room for all that is written
-pub nothing_wrong : (bs : List ℕ) (n results sheet work : ℕ) → fault bs ≡ None → n ≡ number_at bs 0 → n ≤ results → 4 * n ≤ sheet → 3 * n ≤ work →
-    exchange_fault bs results sheet work ≡ None
-nothing_wrong bs n results sheet work accepted is a b c =
-    rw (accepted, ← is, le-ltb results n a, le-ltb sheet (4 * n) b, le-ltb work (3 * n) c)
-
-pub never_refused : (bs : List ℕ) (n results work : ℕ) (a : Exchanged) (f : Refusal) → fault bs ≡ None → n ≡ number_at bs 0 → n ≤ results → 3 * n ≤ work →
-    ◌≡◌ {A = Result Exchanged Refusal} (Err f) (unless (run_fault bs results work) a) → ⊥
-never_refused bs n results work a f accepted is r w e =
-    let none : run_fault bs results work ≡ None = rw (accepted, ← is, le-ltb results n r, le-ltb work (3 * n) w) in
-    let bad = refused_fault (run_fault bs results work) a f e in
-    some_not_none f (sym bad ∙ none)
-
--- What stands in the lent slices at the end.
-module _ (ls : Lists) (n : ℕ) (results₀ sheet₀ work₀ results work : List ℕ) (traders : n ≡ length ls)
+-- What stands in the lent slices at the end, of which n traders use all.
+module _ (ls : Lists) (n : ℕ) (results₀ work₀ results work : List ℕ) (traders : n ≡ length ls) (room : length results₀ ≡ n)
     (results_are : results ≡ results_of ls ++ drop (length ls) results₀)
     (work_is : work ≡ replicate (2 * length ls) 0 ++ (outs_of ls ++ drop (3 * length ls) work₀)) where
-  pub sheet_end : (sheet : List ℕ) → sheet ≡ entries results work n n ++ drop (4 * n) sheet₀ → sheet ≡ sheet_of ls ++ drop (4 * length ls) sheet₀
-  sheet_end sheet is =
-      let all = entries_are ls results work
-      (λ i h. ap (λ xs. get_or xs i 0) results_are ∙ result_at ls (drop (length ls) results₀) i h)
-      (λ i h. ap (λ xs. get_or xs (2 * length ls + i) 0) work_is ∙ out_at ls (drop (3 * length ls) work₀) i h) in
-      is ∙ (rw traders (ap (λ es. es ++ drop (4 * length ls) sheet₀) all))
+  pub results_end : results ≡ results_of ls
+  results_end = results_are ∙ rw (drop_all (length ls) results₀ (omega arith), append-nil)
 
-  pub work_end : (cleared : List ℕ) → cleared ≡ replicate (3 * n) 0 ++ drop (3 * n) work →
-      cleared ≡ replicate (3 * length ls) 0 ++ drop (3 * length ls) work₀
-  unfolding outs_of
-  work_end cleared is =
-      let size = length-map-range_with_len (out ls) 0 (length ls) in
-      let zeros = length-replicate {A = ℕ} (2 * length ls) 0 in
-      let front : length (replicate {A = ℕ} (2 * length ls) 0 ++ outs_of ls) ≡ 3 * length ls =
-      length-append (replicate {A = ℕ} (2 * length ls) 0) (outs_of ls) ∙ omega arith in
-      let rest : drop (3 * length ls) work ≡ drop (3 * length ls) work₀ =
-      ap (drop (3 * length ls)) (work_is ∙ sym (append_assoc (replicate (2 * length ls) 0) (outs_of ls) (drop (3 * length ls) work₀)))
-      ∙ drop_at (replicate (2 * length ls) 0 ++ outs_of ls) (drop (3 * length ls) work₀) (3 * length ls) front in
-      is ∙ (rw traders (ap (λ xs. replicate (3 * length ls) 0 ++ xs) rest))
+  pub sheet_end : (sheet : List ℕ) (m : ℕ) → m ≡ n → sheet ≡ entries results work m m → sheet ≡ sheet_of ls
+  sheet_end sheet m all is =
+      let same : m ≡ length ls = omega arith in
+      is
+      ∙ rw same
+      (entries_are ls results work (λ i h. ap (λ xs. get_or xs i 0) results_are ∙ result_at ls (drop (length ls) results₀) i h)
+      (λ i h. ap (λ xs. get_or xs (2 * length ls + i) 0) work_is ∙ out_at ls (drop (3 * length ls) work₀) i h))

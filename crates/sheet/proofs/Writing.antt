@@ -1,11 +1,13 @@
 -- How the sheet is written, an entry at a time.
-use Rattle.std.proofs.Common.{◌≡◌, ℕ, suc, ◌+◌, ◌*◌, ◌≤◌, List, [], ◌∷◌, ◌++◌, length, get_or, drop, sym, refl, ap, ◌∙◌, append_assoc, mul-suc, arith, length-append}
+use Rattle.std.proofs.Common.{◌≡◌, ℕ, suc, ◌+◌, ◌*◌, ◌/◌, ◌%◌, ◌<◌, ◌≤◌, List, [], ◌∷◌, ◌++◌, length, get_or, take, drop, sym, refl, ap, ◌∙◌, append_assoc, mul-suc, arith, length-append}
 use Rattle.std.specs.List.{range_with_len, flat_map}
-use Rattle.std.proofs.lemmas.List.{flat_map_more, map-id}
+use Rattle.std.proofs.lemmas.List.{flat_map_more, length-take-le, map-id, take-append-drop}
+use Rattle.std.proofs.lemmas.Slice.{put_mid-paste}
 use Rattle.std.proofs.lemmas.List.FromFn.{map-range_with_len_more, length-range_with_len}
 use Rattle.std.proofs.lemmas.Bool.{le-ltb}
 use Rattle.lists.proofs.Positions.{two_bytes}
 use Rattle.lists.specs.Format.{bytes_of}
+use borrow.Rule.Slice.PartMut.{put_mid}
 use Rattle.sheet.specs.Exchange.{entries, entry_put, put_entry}
 
 -- one number more
@@ -45,6 +47,19 @@ put_behind pre d p stand round is room =
     ap (λ ys. put_entry (pre ++ ys) p stand round) (four_bytes d p room)
     ∙ (rw (← is) (put_here pre _ _ _ _ _ stand round) ∙ sym (append_assoc pre (bytes_of stand ++ bytes_of round) (drop (p + 4) d)))
 
+-- an entry that is copied in at p
+pub entry_copied : (d bytes : List ℕ) (p k stand round : ℕ) → k ≡ 4 → p + 4 ≤ length d → bytes ≡ bytes_of stand ++ bytes_of round →
+    put_mid p k d bytes ≡ entry_put d p stand round
+entry_copied d bytes p k stand round four room are =
+    put_mid-paste p k d bytes (bytes_of stand ++ bytes_of round) 4 are (sym four) refl
+    ∙ sym (put_there d p stand round room
+    ∙ ap (λ xs. put_entry xs p stand round) (sym (take-append-drop p d))
+    ∙ put_behind (take p d) d p stand round (length-take-le p d (omega arith)) room)
+
+-- the bytes of a number
+pub low_byte_first : (x : ℕ) → x < 65536 → x / 256 % 256 ≡ x / 256
+low_byte_first x h = omega arith
+
 -- each entry has four bytes
 pub joined_length : (f : ℕ → List ℕ) (m : ℕ) → ((i : ℕ) → length (f i) ≡ m) → (xs : List ℕ) → length (flat_map f xs) ≡ m * length xs
 joined_length f m each [] = omega arith
@@ -69,3 +84,11 @@ entries_more results work n k d sheet so_far room =
     ap (λ s. put_entry s (4 * k) (get_or results k 0) (get_or work (2 * n + k) 0)) so_far
     ∙ (put_behind (entries results work n k) d (4 * k) (get_or results k 0) (get_or work (2 * n + k) 0) (entries_length results work n k) room
     ∙ (ap (λ e. e ++ drop (4 * k + 4) d) (sym (joined_counting_more f k)) ∙ rw four))
+
+-- the same, as one call writes it
+pub next_entry : (results work d sheet : List ℕ) (n k i stand round : ℕ) → sheet ≡ entries results work n k ++ drop (4 * k) d →
+    length sheet ≡ length d → 4 * k + 4 ≤ length d → i ≡ k → get_or results k 0 ≡ stand → get_or work (2 * n + k) 0 ≡ round →
+    entry_put sheet (4 * i) stand round ≡ entries results work n (k + 1) ++ drop (4 * (k + 1)) d
+next_entry results work d sheet n k i stand round so_far size room at stand_is round_is =
+    rw (at, ← stand_is, ← round_is)
+    (put_there sheet (4 * k) (get_or results k 0) (get_or work (2 * n + k) 0) (omega arith) ∙ entries_more results work n k d sheet so_far room)

@@ -20,14 +20,14 @@ pub fn round_in(sheet: &[u8], trader: u16) -> u16
 }
 
 // Writes an entry at byte `at`: the stand got and the round, low byte first. Where there is no room for it nothing is written.
+#[tactic(auto, using(crate::proofs::Writing::entry_copied, crate::proofs::Writing::low_byte_first))]
 pub fn write_entry(sheet: &mut [u8], at: usize, stand: u16, round: u16)
     ensures { sheet.new ≡ entry_put sheet.old at stand round }
 {
     if sheet.len() < 4 || at > sheet.len() - 4 {
         return;
     }
-    sheet[at] = (stand % 256) as u8;
-    sheet[at + 1] = (stand / 256) as u8;
-    sheet[at + 2] = (round % 256) as u8;
-    sheet[at + 3] = (round / 256) as u8;
+    let [a, b] = stand.to_le_bytes();
+    let [c, d] = round.to_le_bytes();
+    sheet[at..at + 4].copy_from_slice(&[a, b, c, d]);
 }

@@ -1,6 +1,6 @@
 // The public exchange: lists in, results and sheet out.
-ghost use Rattle.std.specs.Prelude.{◌≡◌, ◌+◌, ◌*◌, ◌≤◌, ◌++◌, length, drop, replicate, None};
-ghost use Rattle.lists.specs.Format.{fault, lists_of, number_at, unless};
+ghost use Rattle.std.specs.Prelude.{◌≡◌, ◌*◌, length};
+ghost use Rattle.lists.specs.Format.{lists_of, unless};
 ghost use Rattle.rounds.specs.Run.{exchanged, results_left};
 ghost use Rattle.sheet.specs.Exchange.{PromisedBy, entries, exchange_fault, lent_fault, sheet_left, work_cleared};
 
@@ -24,69 +24,45 @@ pub fn exchange(
     ensures promise { PromisedBy result bytes.now results.new sheet.new }
 {
     let n = read(bytes)?;
-    if let Some(fault) = lent_fault(n, results.len(), sheet.len(), work.len()) {
-        return Err(fault);
-    }
-    exchange_all(bytes, n as usize, results, sheet, work)
+    check_lent(n, results.len(), sheet.len(), work.len())?;
+    let n = n as usize;
+    let results = &mut results[..n];
+    let sheet = &mut sheet[..4 * n];
+    let work = &mut work[..3 * n];
+    let exchanged = run_rounds(bytes, results, work)?;
+    write_sheet(sheet, results, work);
+    work.fill(0);
+    Ok(exchanged)
 }
 
-// The first lent slice that is too short for n traders, by the lengths of the slices.
-fn lent_fault(n: u16, results: usize, sheet: usize, work: usize) -> Option<Refusal>
-    ensures { result ≡ lent_fault n results sheet work }
+// Each lent slice is long enough for n traders, by the lengths of the slices.
+fn check_lent(n: u16, results: usize, sheet: usize, work: usize) -> Result<(), Refusal>
+    ensures { result ≡ unless (lent_fault n results sheet work) tt }
 {
     let n = n as usize;
     if results < n {
-        return Some(Refusal::TooShort {
+        return Err(Refusal::TooShort {
             lent: Lent::Results,
         });
     }
     if sheet < 4 * n {
-        return Some(Refusal::TooShort { lent: Lent::Sheet });
+        return Err(Refusal::TooShort { lent: Lent::Sheet });
     }
     if work < 3 * n {
-        return Some(Refusal::TooShort { lent: Lent::Work });
+        return Err(Refusal::TooShort { lent: Lent::Work });
     }
-    None
+    Ok(())
 }
 
-// The exchange of accepted lists, with room for all that is written.
-fn exchange_all(
-    bytes: &[u8],
-    n: usize,
-    results: &mut [u16],
-    sheet: &mut [u8],
-    work: &mut [u16],
-) -> Result<Exchanged, Refusal>
-    requires accepted { fault bytes.now ≡ None }
-    requires traders { n ≡ number_at bytes.now 0 }
-    requires room { (n ≤ length results.old) × ((4 * n ≤ length sheet.old) × (3 * n ≤ length work.old)) }
-    ensures answer { result ≡ unless (exchange_fault bytes.now (length results.old) (length sheet.old) (length work.old)) (exchanged (lists_of bytes.now)) }
-    ensures results { results.new ≡ results_left result (lists_of bytes.now) results.old }
-    ensures sheet { sheet.new ≡ sheet_left result (lists_of bytes.now) sheet.old }
-    ensures work { work.new ≡ work_cleared result (lists_of bytes.now) work.old }
-    ensures promise { PromisedBy result bytes.now results.new sheet.new }
+// Writes the sheet: the results, and the rounds, which stand in the third part of the work slice.
+fn write_sheet(sheet: &mut [u8], results: &[u16], work: &[u16])
+    requires sheet { length sheet.old ≡ 4 * length results.now }
+    requires work { length work.now ≡ 3 * length results.now }
+    ensures { sheet.new ≡ entries results.now work.now (length results.now) (length results.now) }
 {
-    let exchanged = run_rounds(bytes, results, work)?;
-    write_sheet(sheet, results, work, n);
-    clear(work, 3 * n);
-    Ok(exchanged)
-}
-
-// Clears the first `count` entries of the work slice.
-fn clear(work: &mut [u16], count: usize)
-    requires { count ≤ length work.old }
-    ensures { work.new ≡ replicate count 0 ++ drop count work.old }
-{
-    work[0..count].fill(0);
-}
-
-// Writes the sheet of n traders: the results, and the rounds, which stand in the third part of the work slice.
-fn write_sheet(sheet: &mut [u8], results: &[u16], work: &[u16], n: usize)
-    requires room { (4 * n ≤ length sheet.old) × ((n ≤ length results.now) × (3 * n ≤ length work.now)) }
-    ensures { sheet.new ≡ entries results.now work.now n n ++ drop (4 * n) sheet.old }
-{
-    for i in 0..n {
-        write_entry(sheet, 4 * i, results[i], work[2 * n + i]);
+    let rounds = &work[2 * results.len()..];
+    for (i, (stand, round)) in results.iter().zip(rounds).enumerate() {
+        write_entry(sheet, 4 * i, *stand, *round);
     }
 }
 
