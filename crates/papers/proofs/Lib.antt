@@ -1,3 +1,4 @@
+pub mod Parts
 pub mod Places
 pub mod Rings
 pub mod Writes
