@@ -1,3 +1,4 @@
+pub mod Splits
 pub mod Parts
 pub mod Places
 pub mod Rings
