@@ -1,7 +1,7 @@
 -- A paper shows one trader what it got, the ring by which it got it, and that nobody passed it over. All numbers have two
 -- bytes, low byte first, but for the count of the dearer stands, which has one.
 use Rattle.std.specs.Prelude.{ℕ, zero, suc, ◌+◌, ◌-◌, ◌*◌, cond, List, [], ◌∷◌, ◌++◌, length, take, drop, map, Some, None, Ok, Err, Option, Result, ◌==◌, nat_lt, slice_index, slice_index_or}
-use Rattle.std.specs.List.{range_with_len}
+use Rattle.std.specs.List.{before_first, range_with_len}
 use Rattle.std.specs.Option.{option_or}
 use Rattle.refusals.specs.declared.Lent.TheVariants.{Results}
 use Rattle.refusals.specs.declared.Refusal.{Refusal}
@@ -70,8 +70,7 @@ ring_of sheet n i = ring_from sheet i n i
 
 -- the stands of a list that are dearer than stand t: those before it
 unfoldable pub dearer_than : ℕ → List ℕ → List ℕ
-dearer_than t [] = []
-dearer_than t (u ∷ us) = cond (u == t) [] (u ∷ dearer_than t us)
+dearer_than t l = before_first (λ u. u == t) l
 
 -- for each of some stands its holder and the round in which that holder went out
 unfoldable pub gone_bytes : List ℕ → List ℕ → List ℕ

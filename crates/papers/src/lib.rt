@@ -3,6 +3,7 @@
 
 mod bytes;
 pub mod checking;
+mod list;
 pub mod paper;
 pub mod splitting;
 pub mod theorems;

@@ -41,8 +41,8 @@ impl<'a> Papers<'a> {
         self.left
     }
 
-    #[tactic(auto, using(std::proofs::lemmas::List::take_min))]
     // The next paper, as long as its own numbers say, and cut where the bytes end.
+    #[tactic(auto, using(std::proofs::lemmas::List::take_min))]
     pub fn next_paper(&mut self) -> &'a [u8]
         ensures paper { result.now ≡ paper_at self.old 0 }
         ensures left { self.new ≡ drop (length result.now) self.old }
