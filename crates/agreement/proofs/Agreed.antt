@@ -2,7 +2,6 @@
 use Rattle.std.proofs.Common.{◌≡◌, ℕ, ◌*◌, List, ◌++◌, take, drop, Some, None, Ok, Err, Result, sym, refl, ap, ◌∙◌, arith}
 use Rattle.std.proofs.lemmas.List.{take_at}
 use Rattle.std.specs.Option.{option_or}
-use Rattle.lists.specs.Format as format
 use Rattle.lists.specs.Format.{lists_of, number_at, unless}
 use Rattle.lists.proofs.Positions.{count_of_lists}
 use Rattle.sheet.specs.Sheet.{check_fault}

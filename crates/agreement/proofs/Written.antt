@@ -4,13 +4,12 @@ use Rattle.std.proofs.lemmas.List.{take_at}
 use Rattle.std.proofs.lemmas.Bool.{cases_Bool, le-ltb, lt-ltb}
 use Rattle.std.specs.Option.{option_or}
 use Rattle.refusals.specs.declared.Refusal.{Refusal}
-use Rattle.lists.specs.Format as format
 use Rattle.lists.specs.Format.{fault, lists_of, number_at, unless}
 use Rattle.lists.proofs.Accepted.{accepted_encodable, no_fault_both}
 use Rattle.lists.proofs.Faults.{refused_fault}
 use Rattle.lists.proofs.Positions.{count_of_lists}
-use Rattle.sheet.specs.Sheet.{check_fault, sheet_fault, stand_in}
-use Rattle.papers.specs.Paper.{paper_fault, paper_for, paper_of, ring_from, room_fault, trader_fault}
+use Rattle.sheet.specs.Sheet.{check_fault, ring_from, sheet_fault, stand_in}
+use Rattle.papers.specs.Paper.{paper_fault, paper_for, paper_of, room_fault, trader_fault}
 use Rattle.papers.proofs.Places.{dearer_few}
 use Rattle.papers.proofs.Writes.{length_paper}
 use Rattle.agreement.specs.declared.Fault.{Fault}

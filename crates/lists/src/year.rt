@@ -1,5 +1,5 @@
 // The accepted lists of a year, and those of its traders.
-ghost use Rattle.std.specs.Prelude.{◌≡◌, length, slice_get};
+ghost use Rattle.std.specs.Prelude.{◌≡◌, ◌≤◌, length, slice_get};
 ghost use Rattle.lists.specs.Format.{encode_list, encode_stands, numbers};
 
 use crate::stands::Stands;
@@ -72,9 +72,10 @@ impl<'a> Model for Year<'a> {
 }
 
 impl<'a> Year<'a> {
-    // How many traders there are.
+    // How many traders there are, at most 4,000.
     pub fn traders(&self) -> u16
-        ensures { result ≡ length self.now }
+        ensures count { result ≡ length self.now }
+        ensures most { result ≤ 4000 }
     {
         self.traders
     }

@@ -3,8 +3,7 @@ use Rattle.std.proofs.Common.{◌≡◌, ℕ, zero, suc, ◌+◌, ◌<◌, true,
 use Rattle.std.proofs.lemmas.Bool.{cases_Bool, eq-eqb, ne_eqb}
 use Rattle.theory.specs.Certificate.{steps}
 use Rattle.theory.proofs.Finite.{steps_out}
-use Rattle.sheet.specs.Sheet.{stand_in}
-use Rattle.papers.specs.Paper.{ring_from}
+use Rattle.sheet.specs.Sheet.{ring_from, stand_in}
 
 -- who stands at place j of the ring
 pub ring_steps : (sheet : List ℕ) (own k t j : ℕ) → j < length (ring_from sheet own k t) →

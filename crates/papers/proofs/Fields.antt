@@ -2,8 +2,8 @@
 use Rattle.std.proofs.Common.{◌≡◌, ℕ, zero, suc, ◌+◌, ◌*◌, ◌<◌, List, [], ◌∷◌, ◌++◌, length, get_or, refl, ap, ◌∙◌, arith}
 use Rattle.lists.specs.Format.{bytes_of, encode_stands, number_at}
 use Rattle.lists.proofs.Encoding.{byte_after, length_of_stands, number_after, number_of_bytes}
-use Rattle.sheet.specs.Sheet.{round_in, stand_in}
-use Rattle.papers.specs.Paper.{count_on, count_place, dearer_bytes, dearer_than, gone_bytes, gone_on, head_bytes, holder_on, own_on, paper_for, ring_length, ring_of, ring_on, round_on, stand_on}
+use Rattle.sheet.specs.Sheet.{ring_of, round_in, stand_in}
+use Rattle.papers.specs.Paper.{count_on, count_place, dearer_bytes, dearer_than, gone_bytes, gone_on, head_bytes, holder_on, own_on, paper_for, ring_length, ring_on, round_on, stand_on}
 
 number_of_stands : (ts rest : List ℕ) (k : ℕ) → k < length ts → number_at (encode_stands ts ++ rest) (2 * k) ≡ get_or ts k 0
 unfolding encode_stands

@@ -3,8 +3,7 @@ use Rattle.std.proofs.Common.{◌≡◌, ℕ, zero, suc, ◌+◌, ◌-◌, ◌<�
 use Rattle.std.proofs.lemmas.Bool.{both_ways, cases_lt, cases_order, eq-eqb, eqb-true, lt-ltb, ltb-true}
 use Rattle.theory.specs.Certificate.{steps}
 use Rattle.theory.proofs.Finite.{Turning, least_true, orbit, returns_back, steps_add, steps_swap}
-use Rattle.sheet.specs.Sheet.{stand_in}
-use Rattle.papers.specs.Paper.{ring_from, ring_of}
+use Rattle.sheet.specs.Sheet.{ring_from, ring_of, stand_in}
 use Rattle.papers.proofs.Around.{ring_steps}
 
 -- nobody is met twice before a walk is back where it began, for the first time after k + 1 steps

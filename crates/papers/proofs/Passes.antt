@@ -12,11 +12,11 @@ use Rattle.lists.proofs.Encoding.{length_of_stands, proper_may, stands_written, 
 use Rattle.lists.proofs.Faults.{may_list}
 use Rattle.lists.proofs.Positions.{count_of_numbers, list_is, numbers_from}
 use Rattle.sheet.specs.Sheet as sheets
-use Rattle.sheet.specs.Sheet.{round_in, sheet_of, stand_in}
+use Rattle.sheet.specs.Sheet.{ring_of, round_in, sheet_of, stand_in}
 use Rattle.sheet.proofs.Checked.{accepted_valid, all_fine, no_fault_test}
 use Rattle.sheet.proofs.Written.{written_accepted}
 use Rattle.papers.specs.Faults.{dearer_fault, field_fault, fields_fault, gone_fault, head_fault, holder_fault, in_place, length_fault, member_fault, own_fault, owner, ring_fault, round_fault, stand_fault, tail_fault}
-use Rattle.papers.specs.Paper.{count_on, count_place, dearer_than, gone_on, holder_on, own_on, paper_for, ring_length, ring_of, ring_on, round_on, stand_on}
+use Rattle.papers.specs.Paper.{count_on, count_place, dearer_than, gone_on, holder_on, own_on, paper_for, ring_length, ring_on, round_on, stand_on}
 use Rattle.papers.specs.Trust.{OwnListsStandThere, PapersOfTheExchangePass, PapersPass, own_list}
 use Rattle.papers.proofs.Fields.{count_written, gone_written, holder_written, own_written, ring_length_written, ring_written, round_written, stand_written}
 use Rattle.papers.proofs.Orbits.{Ring, ring_around}

@@ -5,8 +5,8 @@ use Rattle.std.proofs.lemmas.List.Edits.{paste_all, paste_more, paste_none, past
 use Rattle.std.proofs.lemmas.List.{append_assoc, length-take-le, take-append-drop, take_more}
 use Rattle.lists.specs.Format.{bytes_of, encode_stands}
 use Rattle.lists.proofs.Encoding.{length_of_stands}
-use Rattle.sheet.specs.Sheet.{round_in, stand_in}
-use Rattle.papers.specs.Paper.{dearer_bytes, dearer_than, gone_bytes, head_bytes, paper_for, ring_of, written}
+use Rattle.sheet.specs.Sheet.{ring_of, round_in, stand_in}
+use Rattle.papers.specs.Paper.{dearer_bytes, dearer_than, gone_bytes, head_bytes, paper_for, written}
 
 written_is : (at : ℕ) (xs d : List ℕ) → written at xs d ≡ paste d at xs (length xs)
 written_is at xs d = sym (paste_all d at xs (length xs) refl)

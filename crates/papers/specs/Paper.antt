@@ -1,6 +1,6 @@
 -- A paper shows one trader what it got, the ring by which it got it, and that nobody passed it over. All numbers have two
 -- bytes, low byte first, but for the count of the dearer stands, which has one.
-use Rattle.std.specs.Prelude.{ℕ, zero, suc, ◌+◌, ◌-◌, ◌*◌, cond, List, [], ◌∷◌, ◌++◌, length, take, drop, map, Some, None, Ok, Err, Option, Result, ◌==◌, nat_lt, slice_index, slice_index_or}
+use Rattle.std.specs.Prelude.{ℕ, ◌+◌, ◌-◌, ◌*◌, cond, List, [], ◌∷◌, ◌++◌, length, take, drop, map, Some, None, Ok, Err, Option, Result, ◌==◌, nat_lt, slice_index, slice_index_or}
 use Rattle.std.specs.List.{before_first, range_with_len}
 use Rattle.std.specs.Option.{option_or}
 use Rattle.refusals.specs.declared.Lent.TheVariants.{Results}
@@ -8,7 +8,7 @@ use Rattle.refusals.specs.declared.Refusal.{Refusal}
 use Rattle.refusals.specs.declared.Refusal.TheVariants.{PaperFault, TooShort}
 use Rattle.lists.specs.Format.{bytes_of, encode_stands, lists_of, number_at}
 use Rattle.theory.specs.Trade.{Lists}
-use Rattle.sheet.specs.Sheet.{check_fault, round_in, stand_in}
+use Rattle.sheet.specs.Sheet.{check_fault, ring_of, round_in, stand_in}
 
 -- ---- what stands on a paper, by the bytes
 
@@ -51,22 +51,13 @@ from_place at k end = map at (range_with_len k (end - k))
 abbrev pub traders_on : List ℕ → List ℕ
 traders_on paper = from_place (ring_on paper) 0 (ring_length paper)
 
-abbrev pub entry_on : List ℕ → ℕ → ℕ × ℕ
-entry_on paper j = (holder_on paper j, gone_on paper j)
+abbrev pub holder_and_round : List ℕ → ℕ → ℕ × ℕ
+holder_and_round paper j = (holder_on paper j, gone_on paper j)
 
 abbrev pub all_gone_on : List ℕ → List (ℕ × ℕ)
-all_gone_on paper = from_place (entry_on paper) 0 (count_on paper)
+all_gone_on paper = from_place (holder_and_round paper) 0 (count_on paper)
 
 -- ---- the paper of a trader, by the lists and a sheet
-
--- the traders from t on, each followed by the holder of the stand that it got, until trader own comes next; at most k
-unfoldable pub ring_from : List ℕ → ℕ → ℕ → ℕ → List ℕ
-ring_from sheet own zero t = []
-ring_from sheet own (suc k) t = t ∷ cond (stand_in sheet t == own) [] (ring_from sheet own k (stand_in sheet t))
-
--- the ring of trader i, among n traders
-abbrev pub ring_of : List ℕ → ℕ → ℕ → List ℕ
-ring_of sheet n i = ring_from sheet i n i
 
 -- the stands of a list that are dearer than stand t: those before it
 unfoldable pub dearer_than : ℕ → List ℕ → List ℕ

@@ -182,11 +182,11 @@ pub struct Gone<'a> {
 
 impl<'a> Model for Gone<'a> {
     ghost use Rattle.std.specs.Prelude.{ℕ, List};
-    ghost use Rattle.papers.specs.Paper.{entry_on, from_place};
+    ghost use Rattle.papers.specs.Paper.{holder_and_round, from_place};
 
     ghost Value = { List (ℕ × ℕ) };
 
-    ghost view = { λ gone. from_place (entry_on gone.paper) gone.places.start gone.places.end };
+    ghost view = { λ gone. from_place (holder_and_round gone.paper) gone.places.start gone.places.end };
 }
 
 impl<'a> Iterator for Gone<'a> {

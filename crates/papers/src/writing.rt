@@ -1,8 +1,8 @@
 // Writing a trader's paper from the lists of a year and a sheet.
 ghost use Rattle.std.specs.Prelude.{◌≡◌, ◌+◌, ◌*◌, ◌<◌, ◌≤◌, ◌++◌, length, None};
 ghost use Rattle.lists.specs.Format.{bytes_of, encode_stands, lists_of, number_at, numbers, unless};
-ghost use Rattle.sheet.specs.Sheet.{check_fault};
-ghost use Rattle.papers.specs.Paper.{dearer_than, gone_bytes, left_by, paper_fault, paper_for, paper_of, ring_of, room_fault, trader_fault, written};
+ghost use Rattle.sheet.specs.Sheet.{check_fault, ring_of};
+ghost use Rattle.papers.specs.Paper.{dearer_than, gone_bytes, left_by, paper_fault, paper_for, paper_of, room_fault, trader_fault, written};
 
 use crate::bytes::{dearer_count, put};
 use lists::bytes::number_at;

@@ -12,7 +12,7 @@ use Rattle.lists.proofs.Faults.{no_fault, refused_fault}
 use Rattle.lists.proofs.Positions.{count_of_lists}
 use Rattle.theory.proofs.Results.{valid_sheet_is_the_result}
 use Rattle.sheet.specs.Check.{Checked}
-use Rattle.sheet.specs.Sheet.{stand_in, round_in, got_before, dearer_fault, trader_fault, traders_fault, length_fault, sheet_fault, check_fault, Valid, AcceptsExactly}
+use Rattle.sheet.specs.Sheet.{stand_in, round_in, got_before, dearer_fault, trader_fault, traders_fault, length_fault, sheet_fault, check_fault, Valid, AcceptsExactly, IsAccepted}
 
 -- a test that finds no fault, and one that finds none where it holds
 pub no_fault_test : (b : Bool) (f : Refusal) → cond b None (Some f) ≡ None → b ≡ true
@@ -215,3 +215,10 @@ module _ (bs sheet : List ℕ) (n : ℕ) (accepted : fault bs ≡ None) (count :
   pub all_right : length_fault n sheet ≡ None → traders_fault (lists_of bs) sheet 0 n ≡ None →
       ◌≡◌ {A = Result ℕ Refusal} (Ok n) (unless (check_fault bs sheet) (number_at bs 0))
   all_right sized e = rw (length_right sized, e) (ap Ok count)
+
+-- a sheet that is accepted
+pub accepted_sheet : (ls : Lists) (sheet : List ℕ) → length_fault (length ls) sheet ≡ None → traders_fault ls sheet 0 (length ls) ≡ None → IsAccepted ls sheet
+accepted_sheet ls sheet size fine =
+    let right : sheet_fault ls sheet ≡ None = rw (size, fine) in
+    let valid = accepted_valid ls sheet right in
+    record { right = right; size = valid.0; exists = valid.1.exists }

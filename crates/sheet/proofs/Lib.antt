@@ -4,3 +4,4 @@ pub mod Checked
 pub mod Dearer
 pub mod Traders
 pub mod Written
+pub mod Rings

@@ -1,15 +1,14 @@
 -- How the first fault of all traders is found a trader at a time.
-use Rattle.std.proofs.Common.{◌≡◌, ℕ, zero, suc, ◌+◌, ◌*◌, ◌<◌, ◌≤◌, Bool, eqb, List, length, get_or, set, replicate, Some, None, Option, sym, ap, ◌∙◌, add-one, arith}
-use Rattle.std.proofs.lemmas.Bool.{and_parts, ltb-true}
-use Rattle.std.specs.Option.{option_or}
+use Rattle.std.proofs.Common.{◌≡◌, ℕ, zero, suc, ◌+◌, ◌<◌, ◌≤◌, Bool, true, false, List, [], ◌∷◌, length, get_or, set, drop, replicate, Some, None, Option, sym, refl, ap, ◌∙◌, inl, inr, add-one, arith}
+use Rattle.std.proofs.lemmas.Bool.{cases_eq, eq-eqb, ne_eqb}
+use Rattle.std.proofs.lemmas.List.{drop-drop, get_or-drop, get_or-set_other, get_or-set_same}
 use Rattle.refusals.specs.declared.Refusal.{Refusal}
-use Rattle.lists.specs.Format.{Begins, list_bytes, lists_of, next_start, number_at, numbers, start}
 use Rattle.theory.specs.Trade.{Lists}
-use Rattle.lists.proofs.Accepted.{begins_list, begins_within, no_fault_both, short_list}
-use Rattle.lists.proofs.Faults.{marks_set, no_mark}
-use Rattle.lists.proofs.Positions.{count_of_lists, length_of_part, start_more}
-use Rattle.sheet.specs.Sheet.{stand_in, got_before, taken_fault, dearer_fault, holder_fault, entry_fault, trader_fault, traders_fault}
-use Rattle.sheet.proofs.Checked.{no_fault_test}
+use Rattle.lists.specs.Format.{Begins, list_bytes}
+use Rattle.lists.proofs.Accepted.{begins_within, short_list}
+use Rattle.lists.proofs.Positions.{length_of_part}
+use Rattle.sheet.specs.Sheet.{stand_in, got_before, entry_fault, trader_fault, traders_fault}
+use Rattle.sheet.proofs.Checked.{fine_trader}
 
 -- one trader, and the end
 module _ (ls : Lists) (sheet : List ℕ) (i left : ℕ) (whole : Option Refusal) (so_far : traders_fault ls sheet i left ≡ whole) where
@@ -32,42 +31,49 @@ module _ (ls : Lists) (sheet : List ℕ) (i left : ℕ) (whole : Option Refusal)
   unfolding traders_fault
   traders_done h = sym so_far ∙ rw h
 
--- a trader's entry without a fault has a stand that exists
-pub entry_below : (sheet : List ℕ) (n i : ℕ) (ts : List ℕ) (again : Bool) → entry_fault sheet n i ts again ≡ None → stand_in sheet i < n
-entry_below sheet n i ts again e =
-    let p = no_fault_both (taken_fault sheet n i again) (option_or (dearer_fault sheet i ts 0) (holder_fault sheet i)) e in
-    ltb-true _ _ (and_parts _ _ (no_fault_test _ _ p.0)).0
+-- a trader without a fault has got a stand that exists
+pub stand_below : (ls : Lists) (sheet : List ℕ) (i : ℕ) → trader_fault ls sheet i ≡ None → stand_in sheet i < length ls
+stand_below ls sheet i e = (fine_trader ls sheet i e).exists
 
 -- the marks of the stands got before: none, and one more
-pub taken_none : (sheet : List ℕ) (n t : ℕ) → eqb (get_or (replicate n 0) t 0) 1 ≡ got_before sheet 0 t
+pub no_marks : (n t : ℕ) → get_or (replicate n false) t false ≡ false
+no_marks zero t = refl
+no_marks (suc n) zero = refl
+no_marks (suc n) (suc t) = no_marks n t
+
+pub taken_none : (sheet : List ℕ) (n i t : ℕ) → i ≡ 0 → get_or (replicate n false) t false ≡ got_before sheet i t
 unfolding got_before
-taken_none sheet n t = no_mark n t
+taken_none sheet n i t start = rw start (no_marks n t)
 
-pub taken_more : (sheet taken : List ℕ) (i got : ℕ) → got ≡ stand_in sheet i → got < length taken →
-    ((t : ℕ) → eqb (get_or taken t 0) 1 ≡ got_before sheet i t) →
-    (t : ℕ) → eqb (get_or (set taken got 1) t 0) 1 ≡ got_before sheet (i + 1) t
+pub taken_more : (sheet : List ℕ) (taken : List Bool) (i got : ℕ) → got ≡ stand_in sheet i → got < length taken →
+    ((t : ℕ) → get_or taken t false ≡ got_before sheet i t) →
+    (t : ℕ) → get_or (set taken got true) t false ≡ got_before sheet (i + 1) t
 unfolding got_before
-taken_more sheet taken i got is h m t = rw (add-one i, ← is) (marks_set taken 1 got h (got_before sheet i) m t)
+taken_more sheet taken i got is h m t =
+    elim (cases_eq t got) [
+      | inl e ↦ rw (add-one i, ← is, e, eq-eqb got got refl) (get_or-set_same taken got true false h)
+      | inr ne ↦ rw (add-one i, ← is, ne_eqb got t (λ e. ne (sym e))) (get_or-set_other taken got t true false ne ∙ m t)
+    ]
 
--- the list of trader i, which begins at byte `at` of accepted bytes
-module _ (bs : List ℕ) (i at : ℕ) (begins : Begins bs i at) where
-  pub part_length : length (list_bytes bs at) ≡ 2 * get_or bs at 0
-  part_length = length_of_part bs at (begins_within bs i at begins)
+-- the lists ts that are left, from trader i on: the list of that trader, and the others
+module _ (ls ts us : Lists) (i : ℕ) (l : List ℕ) (left : ts ≡ drop i ls) (more : ts ≡ l ∷ us) where
+  pub list_next : us ≡ drop (i + 1) ls
+  list_next = ap (drop 1) (sym more ∙ left) ∙ drop-drop 1 i ls
 
-  pub few_stands : length (list_bytes bs at) ≤ 80
-  few_stands =
-      let few : get_or bs at 0 ≤ 40 = rw begins.2 (short_list bs begins.0 i begins.1) in
-      let long = part_length in
-      omega arith
+  pub list_here : get_or ls i [] ≡ l
+  list_here =
+      let at : i + 0 ≡ i = omega arith in
+      rw at at (sym (get_or-drop i ls 0 [])) ∙ ap (λ xs. get_or xs 0 []) (sym left ∙ more)
 
-  pub trader_is : (sheet : List ℕ) (n : ℕ) (list : List ℕ) (again : Bool) → n ≡ number_at bs 0 → list ≡ list_bytes bs at →
-      again ≡ got_before sheet i (stand_in sheet i) →
-      entry_fault sheet n i (numbers list) again ≡ trader_fault (lists_of bs) sheet i
+  -- what is checked of trader i
+  pub trader_is : (sheet : List ℕ) (n : ℕ) (again : Bool) → n ≡ length ls → again ≡ got_before sheet i (stand_in sheet i) →
+      entry_fault sheet n i l again ≡ trader_fault ls sheet i
   unfolding trader_fault
-  trader_is sheet n list again count is before = rw (count_of_lists bs, ← begins_list bs i at begins, is, count, before)
+  trader_is sheet n again count before = rw (count, before, list_here)
 
-  pub on : (size : ℕ) → size ≡ length (list_bytes bs at) → at + (1 + size) ≡ start bs (i + 1)
-  on size is =
-      let long = part_length in
-      let next = start_more bs i ∙ ap (next_start bs) (sym begins.2) in
-      omega arith
+-- the list of trader i, which begins at byte `at` of accepted bytes, has at most 40 stands
+pub few_stands : (bs : List ℕ) (i at : ℕ) → Begins bs i at → length (list_bytes bs at) ≤ 80
+few_stands bs i at begins =
+    let few : get_or bs at 0 ≤ 40 = rw begins.2 (short_list bs begins.0 i begins.1) in
+    let long = length_of_part bs at (begins_within bs i at begins) in
+    omega arith

@@ -83,6 +83,26 @@ check_fault bs sheet = option_or (fault bs) (sheet_fault (lists_of bs) sheet)
 abbrev pub Valid : Lists → List ℕ → Type 0
 Valid ls sheet = (length sheet ≡ 4 * length ls) × ValidSheet ls (stand_in sheet) (round_in sheet)
 
+-- A sheet that was accepted, with the lists for which it was.
+pub record Accepted : Type 0 where
+  pub lists : Lists
+  pub bytes : List ℕ
+
+-- The sheet is accepted for the lists ls: so it has an entry for each trader, whose stand exists.
+pub record IsAccepted (ls : Lists) (sheet : List ℕ) : Type 0 where
+  pub right : sheet_fault ls sheet ≡ None
+  pub size : length sheet ≡ 4 * length ls
+  pub exists : (i : ℕ) → i < length ls → stand_in sheet i < length ls
+
+-- the traders from t on, each followed by the holder of the stand that it got, until trader own comes next; at most k
+unfoldable pub ring_from : List ℕ → ℕ → ℕ → ℕ → List ℕ
+ring_from sheet own zero t = []
+ring_from sheet own (suc k) t = t ∷ cond (stand_in sheet t == own) [] (ring_from sheet own k (stand_in sheet t))
+
+-- the ring of trader i, among n traders
+abbrev pub ring_of : List ℕ → ℕ → ℕ → List ℕ
+ring_of sheet n i = ring_from sheet i n i
+
 -- A sheet is accepted exactly if it is valid.
 unfoldable pub AcceptsExactly : Type 0
 AcceptsExactly =

@@ -1,154 +1,134 @@
-// Checking anybody's sheet against the lists of a year. A function `.._fault` tells the first fault, None where there is none.
-ghost use Rattle.std.specs.Prelude.{◌≡◌, ◌/◌, ◌≤◌, length, None, ◌==◌, slice_index};
-ghost use Rattle.lists.specs.Format.{fault, lists_of, number_at, numbers, unless};
+// Checking anybody's sheet against the lists of a year.
+ghost use Rattle.std.specs.Prelude.{◌≡◌, ◌≤◌, false, length, slice_index_or};
+ghost use Rattle.lists.specs.Format.{lists_of, number_at, unless};
 ghost use Rattle.sheet.specs.Check.{Checked};
-ghost use Rattle.sheet.specs.Sheet.{AcceptsExactly, AcceptsWhatWasWritten, check_fault, dearer_fault, entry_fault, holder_fault, later_fault, length_fault, own_fault, stand_in, taken_fault, traders_fault};
+ghost use Rattle.sheet.specs.Sheet.{AcceptsExactly, AcceptsWhatWasWritten, check_fault, dearer_fault, entry_fault, holder_fault, later_fault, length_fault, own_fault, sheet_fault, stand_in, taken_fault, traders_fault};
 
+use crate::accepted::AcceptedSheet;
 use crate::entries::{round_in, stand_in};
-use lists::bytes::number_at;
-use lists::reading::{list_at, read};
+use lists::year::{List, Year};
 use refusals::Refusal;
 
-// the mark of a stand that a trader before got
-const TAKEN: u8 = 1;
-
 // The sheet has an entry for each trader, and no more.
-fn length_fault(sheet: &[u8], n: u16) -> Option<Refusal>
-    ensures { result ≡ length_fault n sheet.now }
+fn check_length(sheet: &[u8], n: u16) -> Result<(), Refusal>
+    ensures { result ≡ unless (length_fault n sheet.now) tt }
 {
     if sheet.len() != 4 * n as usize {
-        return Some(Refusal::SheetLength {
+        return Err(Refusal::SheetLength {
             length: sheet.len(),
         });
     }
-    None
+    Ok(())
 }
 
-// The stand that a trader got exists, and no trader before got it. `taken` has 1 at the stands that were got before.
-fn taken_fault(sheet: &[u8], n: u16, trader: u16, taken: &[u8]) -> Option<Refusal>
-    requires { n ≤ length taken.now }
-    ensures { result ≡ taken_fault sheet.now n trader (slice_index taken.now (stand_in sheet.now trader) == 1) }
+// The stand that a trader got exists, and no trader before got it. `taken` tells the stands that were got before.
+fn check_taken(sheet: &[u8], n: u16, trader: u16, taken: &[bool; 4000]) -> Result<(), Refusal>
+    requires { n ≤ 4000 }
+    ensures { result ≡ unless (taken_fault sheet.now n trader (slice_index_or taken.now (stand_in sheet.now trader) false)) tt }
 {
     let got = stand_in(sheet, trader);
-    if got >= n || taken[got as usize] == TAKEN {
-        return Some(Refusal::StandTaken { trader });
+    if got >= n || taken[got as usize] {
+        return Err(Refusal::StandTaken { trader });
     }
-    None
+    Ok(())
 }
 
 // The holder of a dearer stand, at a place of a trader's list, went out before the trader.
-fn later_fault(sheet: &[u8], trader: u16, stand: u16, place: u8) -> Option<Refusal>
-    ensures { result ≡ later_fault sheet.now trader stand place }
+fn check_later(sheet: &[u8], trader: u16, stand: u16, place: u8) -> Result<(), Refusal>
+    ensures { result ≡ unless (later_fault sheet.now trader stand place) tt }
 {
     if round_in(sheet, stand) >= round_in(sheet, trader) {
-        return Some(Refusal::DearerLater { trader, place });
+        return Err(Refusal::DearerLater { trader, place });
     }
-    None
+    Ok(())
 }
 
 // Past its list, of `count` stands, a trader has got the own stand.
-fn own_fault(sheet: &[u8], trader: u16, count: u8) -> Option<Refusal>
-    ensures { result ≡ own_fault sheet.now trader count }
+fn check_own(sheet: &[u8], trader: u16, count: u8) -> Result<(), Refusal>
+    ensures { result ≡ unless (own_fault sheet.now trader count) tt }
 {
     if stand_in(sheet, trader) != trader {
-        return Some(Refusal::DearerLater {
+        return Err(Refusal::DearerLater {
             trader,
             place: count,
         });
     }
-    None
+    Ok(())
 }
 
 // The holder of the stand that a trader got went out in the same round.
-fn holder_fault(sheet: &[u8], trader: u16) -> Option<Refusal>
-    ensures { result ≡ holder_fault sheet.now trader }
+fn check_holder(sheet: &[u8], trader: u16) -> Result<(), Refusal>
+    ensures { result ≡ unless (holder_fault sheet.now trader) tt }
 {
     let holder = stand_in(sheet, trader);
     if round_in(sheet, holder) != round_in(sheet, trader) {
-        return Some(Refusal::HolderElsewhere { trader });
+        return Err(Refusal::HolderElsewhere { trader });
     }
-    None
-}
-
-// How many stands the bytes of a list have.
-fn count_of(list: &[u8]) -> u8
-    requires { length list.now ≤ 510 }
-    ensures { result ≡ length list.now / 2 }
-{
-    (list.len() / 2) as u8
+    Ok(())
 }
 
 // The holders of the stands of a trader's list went out before the trader, up to the stand that it got.
-fn dearer_fault(sheet: &[u8], list: &[u8], trader: u16) -> Option<Refusal>
-    requires { length list.now ≤ 510 }
-    ensures { result ≡ dearer_fault sheet.now trader (numbers list.now) 0 }
+fn check_dearer(sheet: &[u8], list: &List, trader: u16) -> Result<(), Refusal>
+    ensures { result ≡ unless (dearer_fault sheet.now trader list.now 0) tt }
 {
     let got = stand_in(sheet, trader);
-    let count = count_of(list);
-    for place in 0..count {
-        let stand = number_at(list, 2 * place as usize);
+    for (place, stand) in (0..list.len()).zip(list.stands()) {
         if stand == got {
-            return None;
+            return Ok(());
         }
-        if let Some(fault) = later_fault(sheet, trader, stand, place) {
-            return Some(fault);
-        }
+        check_later(sheet, trader, stand, place)?;
     }
-    own_fault(sheet, trader, count)
+    check_own(sheet, trader, list.len())
 }
 
 // All that is checked of one trader.
-fn trader_fault(sheet: &[u8], n: u16, list: &[u8], trader: u16, taken: &[u8]) -> Option<Refusal>
-    requires { (n ≤ length taken.now) × (length list.now ≤ 510) }
-    ensures { result ≡ entry_fault sheet.now n trader (numbers list.now) (slice_index taken.now (stand_in sheet.now trader) == 1) }
+fn check_entry(
+    sheet: &[u8],
+    n: u16,
+    list: &List,
+    trader: u16,
+    taken: &[bool; 4000],
+) -> Result<(), Refusal>
+    requires { n ≤ 4000 }
+    ensures { result ≡ unless (entry_fault sheet.now n trader list.now (slice_index_or taken.now (stand_in sheet.now trader) false)) tt }
 {
-    taken_fault(sheet, n, trader, taken)
-        .or(dearer_fault(sheet, list, trader))
-        .or(holder_fault(sheet, trader))
+    check_taken(sheet, n, trader, taken)?;
+    check_dearer(sheet, list, trader)?;
+    check_holder(sheet, trader)
 }
 
 // The entries of all traders, one after the other.
-fn traders_fault(bytes: &[u8], sheet: &[u8], n: u16) -> Option<Refusal>
-    requires accepted { fault bytes.now ≡ None }
-    requires count { n ≡ number_at bytes.now 0 }
-    ensures { result ≡ traders_fault (lists_of bytes.now) sheet.now 0 n }
+fn check_traders(year: &Year, sheet: &[u8]) -> Result<(), Refusal>
+    ensures { result ≡ unless (traders_fault year.now sheet.now 0 (length year.now)) tt }
 {
-    let mut taken = [0u8; 4000];
-    let mut at = 2;
-    for trader in 0..n {
-        let list = list_at(bytes, at);
-        if let Some(fault) = trader_fault(sheet, n, list, trader, &taken) {
-            return Some(fault);
-        }
-        taken[stand_in(sheet, trader) as usize] = TAKEN;
-        at += 1 + list.len();
+    let n = year.traders();
+    let mut taken = [false; 4000];
+    for (trader, list) in (0..n).zip(year.lists()) {
+        check_entry(sheet, n, &list, trader, &taken)?;
+        taken[stand_in(sheet, trader) as usize] = true;
     }
-    None
+    Ok(())
 }
 
+impl<'a> AcceptedSheet<'a> {
+    // Checks a sheet against the lists of a year, or finds the first fault.
+    pub fn check(year: &'a Year<'a>, sheet: &'a [u8]) -> Result<AcceptedSheet<'a>, Refusal>
+        ensures { result ≡ unless (sheet_fault year.now sheet.now) (record { lists = year.now; bytes = sheet.now }) }
+    {
+        check_length(sheet, year.traders())?;
+        check_traders(year, sheet)?;
+        Ok(AcceptedSheet { year, bytes: sheet })
+    }
+}
+
+#[tactic(auto, using(crate::proofs::Checked::checked, lists::proofs::Positions::count_of_lists))]
 // Checks a sheet against the lists of a year: the number of traders, or the first fault.
 pub fn check(bytes: &[u8], sheet: &[u8]) -> Result<u16, Refusal>
     ensures answer { result ≡ unless (check_fault bytes.now sheet.now) (number_at bytes.now 0) }
     ensures says { Checked bytes.now sheet.now result }
 {
-    let n = read(bytes)?;
-    check_accepted(bytes, sheet, n)
-}
-
-// Checks a sheet against accepted lists.
-fn check_accepted(bytes: &[u8], sheet: &[u8], n: u16) -> Result<u16, Refusal>
-    requires accepted { fault bytes.now ≡ None }
-    requires traders { n ≡ number_at bytes.now 0 }
-    ensures answer { result ≡ unless (check_fault bytes.now sheet.now) (number_at bytes.now 0) }
-    ensures says { Checked bytes.now sheet.now result }
-{
-    if let Some(fault) = length_fault(sheet, n) {
-        return Err(fault);
-    }
-    match traders_fault(bytes, sheet, n) {
-        Some(fault) => Err(fault),
-        None => Ok(n),
-    }
+    let year = Year::read(bytes)?;
+    Ok(AcceptedSheet::check(&year, sheet)?.traders())
 }
 
 // A sheet is accepted exactly if it is valid.

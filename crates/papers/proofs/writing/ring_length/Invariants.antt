@@ -1,5 +1,5 @@
 use Rattle.std.proofs.Common.{◌≡◌, ◌+◌, ◌-◌, length}
-use Rattle.papers.specs.Paper.{ring_from, ring_of}
+use Rattle.sheet.specs.Sheet.{ring_from, ring_of}
 use Rattle.papers.proofs.writing.ring_length.Given as goal
 
 abbrev pub invariant-loop-k : goal.invariant-loop-k

@@ -1,8 +1,8 @@
 use Rattle.std.proofs.Common.{◌+◌, ◌*◌, ◌<◌, length, sym, refl, ap, ◌∙◌, add-one, arith}
 use Rattle.std.proofs.lemmas.List.{take_all}
 use Rattle.lists.specs.Format.{bytes_of, encode_stands}
-use Rattle.sheet.specs.Sheet.{stand_in}
-use Rattle.papers.specs.Paper.{ring_of, written}
+use Rattle.sheet.specs.Sheet.{ring_of, stand_in}
+use Rattle.papers.specs.Paper.{written}
 use Rattle.papers.proofs.Around.{ring_steps}
 use Rattle.papers.proofs.Writes.{member_written, written_none}
 use Rattle.papers.proofs.writing.write_ring.Goals as goal

@@ -1,8 +1,8 @@
 use Rattle.std.proofs.Common.{◌≡◌, take}
 use Rattle.theory.specs.Certificate.{steps}
 use Rattle.lists.specs.Format.{encode_stands}
-use Rattle.sheet.specs.Sheet.{stand_in}
-use Rattle.papers.specs.Paper.{ring_of, written}
+use Rattle.sheet.specs.Sheet.{ring_of, stand_in}
+use Rattle.papers.specs.Paper.{written}
 use Rattle.papers.proofs.writing.write_ring.Given as goal
 
 abbrev pub invariant-loop-k : goal.invariant-loop-k
