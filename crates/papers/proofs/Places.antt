@@ -1,5 +1,5 @@
 -- The stands of a list by their places, and those that are dearer than one of them.
-use Rattle.std.proofs.Common.{◌≡◌, ℕ, zero, suc, ◌+◌, ◌-◌, ◌*◌, ◌/◌, ◌<◌, ◌≤◌, cond, true, false, not, eqb, ltb, List, [], ◌∷◌, length, get_or, take, drop, sym, refl, ap, ◌∙◌, inl, inr, arith, one-add, length-drop}
+use Rattle.std.proofs.Common.{◌≡◌, ℕ, zero, suc, ◌+◌, ◌*◌, ◌/◌, ◌<◌, ◌≤◌, cond, true, false, not, eqb, ltb, List, [], ◌∷◌, length, get_or, take, drop, sym, refl, ap, ◌∙◌, inl, inr, arith, one-add, length-drop}
 use Rattle.std.specs.List.{list_any, position, position_or_len, prefix_len}
 use Rattle.std.specs.Option.{unwrap_or}
 use Rattle.std.proofs.lemmas.Bool.{cases_Bool, eq-eqb, ne_eqb, cases_lt, lt-ltb, le-ltb}
@@ -21,11 +21,9 @@ unfolding dearer_than
 count_of_dearer t l = length-prefix_len (λ u. not (eqb u t)) l
 
 -- they are the first ones of the list
-pub dearer_first : (t : ℕ) (l : List ℕ) (count : ℕ) → count ≡ length (dearer_than t l) → take (count - 0) l ≡ dearer_than t l
+pub dearer_first : (t : ℕ) (l : List ℕ) (count : ℕ) → count ≡ length (dearer_than t l) → take count l ≡ dearer_than t l
 unfolding dearer_than
-dearer_first t l count is =
-    let all : count - 0 ≡ length (dearer_than t l) = omega arith in
-    rw (all, count_of_dearer t l)
+dearer_first t l count is = rw (is, count_of_dearer t l)
 
 pub dearer_few : (t : ℕ) (l : List ℕ) → length (dearer_than t l) ≤ length l
 dearer_few t l = rw (count_of_dearer t l) (prefix_len-le-length (λ u. not (eqb u t)) l)

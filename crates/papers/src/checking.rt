@@ -113,7 +113,7 @@ impl<'a> Paper<'a> {
     {
         let dearer = dearer_count(list, self.stand());
         let field = 4 + self.ring_length() as usize;
-        self.check_field(field, self.count_place() + 1, self.count() as usize == dearer)
+        self.check_field(field, self.count_place() + 1, self.count() == dearer)
     }
 
     // The holder of the dearer stand at place j of the list, who is the one with the stand's number.

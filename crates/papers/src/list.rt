@@ -1,5 +1,5 @@
 // A trader's list beside the stand that the trader got.
-ghost use Rattle.std.specs.Prelude.{◌≡◌, length};
+ghost use Rattle.std.specs.Prelude.{◌≡◌, ◌≤◌, length};
 ghost use Rattle.lists.specs.Format.{member};
 ghost use Rattle.papers.specs.Paper.{dearer_than};
 
@@ -15,11 +15,11 @@ pub(crate) fn names(list: &List, stand: u16) -> bool
 
 // How many stands of a list are dearer than a stand: those before it.
 #[tactic(auto, using(crate::proofs::Places::place_dearer))]
-pub(crate) fn dearer_count(list: &List, stand: u16) -> usize
-    ensures { result ≡ length (dearer_than stand list.now) }
+pub(crate) fn dearer_count(list: &List, stand: u16) -> u8
+    ensures answer { result ≡ length (dearer_than stand list.now) }
+    ensures few { result ≤ length list.now }
 {
     let all = list.len() as usize;
-    list.stands()
-        .position(|listed| listed == stand)
-        .unwrap_or(all)
+    let place = list.stands().position(|listed| listed == stand);
+    place.unwrap_or(all) as u8
 }

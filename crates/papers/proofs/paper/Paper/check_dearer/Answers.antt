@@ -27,7 +27,7 @@ loop-j-init c =
     let first = ap zip_first c.into_iter-j-iterator.ensures.into_iter_gives ∙ c.zip-j-items.ensures.first in
     let second = ap zip_second c.into_iter-j-iterator.ensures.into_iter_gives ∙ c.zip-j-items.ensures.second in
     let few = dearer_few t c.args.list.now in
-    rw (first, second, c.stands.ensures, dearer_first t c.args.list.now c.count.result all) ((tt, tt), tt, c.count.ensures, omega arith, omega arith, refl)
+    rw (first, second, c.stands.ensures, dearer_first t c.args.list.now (c.count.result - 0) (omega arith)) ((tt, tt), tt, c.count.ensures, omega arith, omega arith, refl)
 
 pub returns-in_err-check_holder : goal.returns-in_err-check_holder
 returns-in_err-check_holder c =
