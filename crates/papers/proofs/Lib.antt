@@ -3,7 +3,6 @@ pub mod Parts
 pub mod Places
 pub mod Rings
 pub mod Writes
-pub mod Around
 pub mod Sources
 pub mod Orbits
 pub mod Fields

@@ -77,8 +77,10 @@ impl<'a> Paper<'a> {
     }
 
     // The traders of the ring, the own one first.
+    #[tactic(auto, using(crate::proofs::Parts::count_of_places))]
     pub fn ring(&self) -> Ring<'a>
-        ensures { result ≡ traders_on self.now }
+        ensures ring { result ≡ traders_on self.now }
+        ensures most { length result ≤ 65535 }
     {
         Ring {
             paper: Paper { bytes: self.bytes },
@@ -124,8 +126,10 @@ impl<'a> Paper<'a> {
     }
 
     // The dearer stands: the holder of each and the round in which that holder went out.
+    #[tactic(auto, using(crate::proofs::Parts::count_of_places))]
     pub fn gone(&self) -> Gone<'a>
-        ensures { result ≡ all_gone_on self.now }
+        ensures gone { result ≡ all_gone_on self.now }
+        ensures most { length result ≤ 255 }
     {
         Gone {
             paper: Paper { bytes: self.bytes },
@@ -202,5 +206,41 @@ impl<'a> Iterator for Gone<'a> {
     fn next(&mut self) -> Option<(u16, u16)> {
         let j = self.places.next()?;
         Some((self.paper.holder(j), self.paper.gone_in(j)))
+    }
+}
+
+#[cfg(test)]
+mod tests {
+    use super::Paper;
+
+    // trader 2 got stand 0 on a ring of three in round 3; the dearer stand 1 was gone in round 2
+    const RING: [u8; 19] = [2, 0, 3, 0, 0, 0, 3, 0, 2, 0, 0, 0, 5, 1, 1, 1, 0, 2, 0];
+
+    #[test]
+    fn fields(rt: HostRuntime) {
+        let paper = Paper::of(&RING);
+        assert_eq!(rt; (paper.own(), paper.round(), paper.stand()), (2, 3, 0));
+        assert_eq!(rt; (paper.ring_length(), paper.trader(2)), (3, 261));
+        assert_eq!(rt; (paper.count_place(), paper.count()), (14, 1));
+        assert_eq!(rt; (paper.holder(0), paper.gone_in(0)), (1, 2));
+        assert_eq!(rt; paper.size(), 19);
+    }
+
+    #[test]
+    fn parts(rt: HostRuntime) {
+        let mut ring = Paper::of(&RING).ring();
+        assert_eq!(rt; (ring.next(), ring.next()), (Some(2), Some(0)));
+        assert_eq!(rt; (ring.next(), ring.next()), (Some(261), None));
+        let mut gone = Paper::of(&RING).gone();
+        assert_eq!(rt; (gone.next(), gone.next()), (Some((1, 2)), None));
+    }
+
+    // bytes that are missing count as 0
+    #[test]
+    fn a_short_paper(rt: HostRuntime) {
+        let paper = Paper::of(&RING[..11]);
+        assert_eq!(rt; (paper.own(), paper.ring_length(), paper.count()), (2, 3, 0));
+        assert_eq!(rt; paper.ring().count(), 3);
+        assert_eq!(rt; (paper.trader(1), paper.trader(2), paper.size()), (0, 0, 15));
     }
 }

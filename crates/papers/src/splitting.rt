@@ -65,3 +65,28 @@ impl<'a> Iterator for Papers<'a> {
         Some(self.next_paper())
     }
 }
+
+#[cfg(test)]
+mod tests {
+    use super::Papers;
+
+    // two papers of 15 and 13 bytes
+    const TWO: [u8; 28] = [
+        0, 0, 1, 0, 0, 0, 1, 0, 0, 0, 1, 1, 0, 0, 0, 1, 0, 0, 0, 2, 0, 2, 0, 1, 0, 2, 0, 0,
+    ];
+
+    #[test]
+    fn one_after_another(rt: HostRuntime) {
+        let mut papers = Papers::of(&TWO);
+        assert_eq!(rt; papers.next_paper().len(), 15);
+        assert_eq!(rt; papers.left().len(), 13);
+        assert_eq!(rt; papers.next_paper().len(), 13);
+        // past the last byte
+        assert_eq!(rt; papers.next_paper().len(), 0);
+        let mut sizes = 0usize;
+        for (_, paper) in (0..4u16).zip(Papers::of(&TWO[..20])) {
+            sizes = sizes.saturating_mul(100).saturating_add(paper.len());
+        }
+        assert_eq!(rt; sizes, 15_050_000);
+    }
+}

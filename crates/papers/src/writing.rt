@@ -108,15 +108,11 @@ mod tests {
     // the paper of a trader passes with the trader's list
     fn passes(bytes: &[u8], sheet: &[u8], trader: u16) -> bool {
         let mut out = [0; 64];
-        let at = start_of(bytes, trader);
-        let end = at
-            .saturating_add(1)
-            .saturating_add(list_at(bytes, at).len());
-        let Ok(size) = paper(bytes, sheet, trader, &mut out) else {
+        let (Ok(size), Ok(year)) = (paper(bytes, sheet, trader, &mut out), Year::read(bytes)) else {
             return false;
         };
-        match (bytes.get(at..end), out.get(0..size)) {
-            (Some(list), Some(written)) => check_paper(list, written).is_ok(),
+        match (year.list(trader), out.get(0..size)) {
+            (Some(list), Some(written)) => check_paper(list.as_bytes(), written).is_ok(),
             _ => false,
         }
     }
