@@ -14,6 +14,7 @@ use Rattle.theory.proofs.Finite.{Returns, returns_apart}
 use Rattle.theory.proofs.Results.{valid_sheet_is_the_result}
 use Rattle.papers.specs.Faults.{count_fault, dearer_fault, field_fault, fields_fault, gone_fault, head_fault, holder_fault, in_place, length_fault, own_fault, owner, ring_fault, round_fault, stand_fault, tail_fault}
 use Rattle.papers.specs.Paper.{count_on, dearer_than, gone_on, holder_on, own_on, ring_length, ring_on, round_on, stand_on}
+use Rattle.papers.proofs.Places.{dearer_more}
 use Rattle.papers.specs.Trust.{Agreeing, AgreeingPapersAreRight, AgreeingPapersMakeASheet, next_on, own_list}
 
 -- ---- what a paper that passes says
@@ -96,18 +97,18 @@ member_place t (u ∷ us) e = elim (cases_Bool (eqb u t)) [
 -- a stand that is dearer than g, which is listed or the own one, stands before it in the list
 before_it : (l : List ℕ) (i g t : ℕ) → (g ≡ i) ⊎ (member g l ≡ true) → rank_in l i t < rank_in l i g →
     (j : ℕ) × (j < length (dearer_than g l)) × (get_or (dearer_than g l) j 0 ≡ t)
-unfolding rank_in dearer_than
+unfolding rank_in
 before_it [] i g t (inl e) d = absurd (let z : cond (eqb i t) 0 1 < 0 = rw (eq-eqb i g (sym e)) at d in omega arith)
 before_it [] i g t (inr e) d = absurd (both_ways false refl e)
 before_it (u ∷ us) i g t own d = elim (cases_Bool (eqb u g)) [
   | inl same ↦ absurd (let z : cond (eqb u t) 0 (suc (rank_in us i t)) < 0 = rw same at d in omega arith)
   | inr other ↦ elim (cases_Bool (eqb u t)) [
-    | inl here ↦ rw other (0, omega arith, eqb-true u t here)
+    | inl here ↦ rw (dearer_more, other) (0, omega arith, eqb-true u t here)
     | inr there ↦
         (let d' : suc (rank_in us i t) < suc (rank_in us i g) = rw (other, there) at d in
         let own' : (g ≡ i) ⊎ (member g us ≡ true) = elim own [ inl e ↦ inl e | inr e ↦ inr (rw other at e) ] in
         let w = before_it us i g t own' (omega arith) in
-        rw other (suc w.0, omega (arith, w.1), w.2))
+        rw (dearer_more, other) (suc w.0, omega (arith, w.1), w.2))
   ]
 ]
 

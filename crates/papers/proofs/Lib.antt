@@ -1,7 +1,8 @@
+pub mod Splits
+pub mod Parts
 pub mod Places
 pub mod Rings
 pub mod Writes
-pub mod Around
 pub mod Sources
 pub mod Orbits
 pub mod Fields

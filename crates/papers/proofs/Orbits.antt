@@ -1,10 +1,23 @@
 -- The ring of a trader on an accepted sheet: it comes back to the trader, and names nobody twice.
-use Rattle.std.proofs.Common.{◌≡◌, ℕ, zero, suc, ◌+◌, ◌-◌, ◌<◌, ◌≤◌, Bool, true, false, eqb, ltb, List, length, get_or, sym, ap, ◌∙◌, inl, inr, arith}
-use Rattle.std.proofs.lemmas.Bool.{both_ways, cases_lt, cases_order, eq-eqb, eqb-true, lt-ltb, ltb-true}
+use Rattle.std.proofs.Common.{◌≡◌, ℕ, zero, suc, ◌+◌, ◌-◌, ◌<◌, ◌≤◌, Bool, true, false, eqb, ltb, List, length, get_or, refl, sym, ap, ◌∙◌, inl, inr, arith}
+use Rattle.std.proofs.lemmas.Bool.{both_ways, cases_Bool, cases_lt, cases_order, eq-eqb, eqb-true, lt-ltb, ltb-true}
 use Rattle.theory.specs.Certificate.{steps}
-use Rattle.theory.proofs.Finite.{Turning, least_true, orbit, returns_back, steps_add, steps_swap}
+use Rattle.theory.proofs.Finite.{Turning, least_true, orbit, returns_back, steps_add, steps_out, steps_swap}
 use Rattle.sheet.specs.Sheet.{ring_from, ring_of, stand_in}
-use Rattle.papers.proofs.Around.{ring_steps}
+
+-- who stands at place j of the ring
+ring_steps : (sheet : List ℕ) (own k t j : ℕ) → j < length (ring_from sheet own k t) →
+    get_or (ring_from sheet own k t) j 0 ≡ steps (stand_in sheet) j t
+unfolding ring_from
+ring_steps sheet own zero t j h = absurd (omega arith)
+ring_steps sheet own (suc k) t zero h = refl
+ring_steps sheet own (suc k) t (suc j) h =
+    elim (cases_Bool (eqb (stand_in sheet t) own)) [
+      | inl e ↦ absurd (let z : suc j < suc 0 = rw e at h in omega arith)
+      | inr e ↦
+          (let z : suc j < suc (length (ring_from sheet own k (stand_in sheet t))) = rw e at h in
+          rw e (ring_steps sheet own k (stand_in sheet t) j (omega arith) ∙ steps_out (stand_in sheet) j t))
+    ]
 
 -- nobody is met twice before a walk is back where it began, for the first time after k + 1 steps
 module _ (f : ℕ → ℕ) (x k : ℕ) (back : steps f (suc k) x ≡ x) (before : (h : ℕ) → h < k → eqb (steps f (suc h) x) x ≡ false) where

@@ -20,6 +20,7 @@ use Rattle.papers.specs.Paper.{count_on, count_place, dearer_than, gone_on, hold
 use Rattle.papers.specs.Trust.{OwnListsStandThere, PapersOfTheExchangePass, PapersPass, own_list}
 use Rattle.papers.proofs.Fields.{count_written, gone_written, holder_written, own_written, ring_length_written, ring_written, round_written, stand_written}
 use Rattle.papers.proofs.Orbits.{Ring, ring_around}
+use Rattle.papers.proofs.Places.{dearer_few, dearer_more}
 use Rattle.papers.proofs.Writes.{length_paper}
 
 -- ---- the list by itself
@@ -120,13 +121,13 @@ at_place sheet u r us (suc k) h first rest = rest k (omega arith)
 
 gone_before : (sheet : List ℕ) (i : ℕ) (ts : List ℕ) (place : ℕ) → sheets.dearer_fault sheet i ts place ≡ None →
     (j : ℕ) → j < length (dearer_than (stand_in sheet i) ts) → round_in sheet (get_or (dearer_than (stand_in sheet i) ts) j 0) < round_in sheet i
-unfolding sheets.dearer_fault dearer_than
-gone_before sheet i [] place e j h = absurd (omega arith)
+unfolding sheets.dearer_fault
+gone_before sheet i [] place e j h = absurd (omega (arith, dearer_few (stand_in sheet i) []))
 gone_before sheet i (t ∷ ts) place e j h = elim (cases_Bool (eqb t (stand_in sheet i))) [
-  | inl same ↦ absurd (let z : j < 0 = rw same at h in omega arith)
+  | inl same ↦ absurd (let z : j < 0 = rw (dearer_more, same) at h in omega arith)
   | inr other ↦ (let both = no_fault_both _ _ (rw other at e) in
-      let z : j < suc (length (dearer_than (stand_in sheet i) ts)) = rw other at h in
-      rw other (at_place sheet t (round_in sheet i) (dearer_than (stand_in sheet i) ts) j z (ltb-true _ _ (no_fault_test _ _ both.0)) (gone_before sheet i ts (suc place) both.1)))
+      let z : j < suc (length (dearer_than (stand_in sheet i) ts)) = rw (dearer_more, other) at h in
+      rw (dearer_more, other) (at_place sheet t (round_in sheet i) (dearer_than (stand_in sheet i) ts) j z (ltb-true _ _ (no_fault_test _ _ both.0)) (gone_before sheet i ts (suc place) both.1)))
 ]
 
 -- ---- a paper from an accepted sheet

@@ -1,3 +1,4 @@
 pub mod Paper
+pub mod Papers
 pub mod Faults
 pub mod Trust

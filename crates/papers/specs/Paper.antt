@@ -1,6 +1,7 @@
 -- A paper shows one trader what it got, the ring by which it got it, and that nobody passed it over. All numbers have two
 -- bytes, low byte first, but for the count of the dearer stands, which has one.
-use Rattle.std.specs.Prelude.{ℕ, ◌+◌, ◌*◌, cond, List, [], ◌∷◌, ◌++◌, length, take, drop, Some, None, Ok, Err, Option, Result, ◌==◌, nat_lt, slice_index, slice_index_or}
+use Rattle.std.specs.Prelude.{ℕ, ◌+◌, ◌-◌, ◌*◌, cond, List, [], ◌∷◌, ◌++◌, length, take, drop, map, Some, None, Ok, Err, Option, Result, ◌==◌, nat_lt, slice_index, slice_index_or}
+use Rattle.std.specs.List.{before_first, range_with_len}
 use Rattle.std.specs.Option.{option_or}
 use Rattle.refusals.specs.declared.Lent.TheVariants.{Results}
 use Rattle.refusals.specs.declared.Refusal.{Refusal}
@@ -42,12 +43,25 @@ holder_on paper j = number_at paper (count_place paper + 1 + 4 * j)
 abbrev pub gone_on : List ℕ → ℕ → ℕ
 gone_on paper j = number_at paper (count_place paper + 3 + 4 * j)
 
+-- what stands at the places from k up to `end`
+abbrev pub from_place : {A : Type 0} → (ℕ → A) → ℕ → ℕ → List A
+from_place at k end = map at (range_with_len k (end - k))
+
+-- the traders of the ring, and the dearer stands, each with its holder and the holder's round
+abbrev pub traders_on : List ℕ → List ℕ
+traders_on paper = from_place (ring_on paper) 0 (ring_length paper)
+
+abbrev pub holder_and_round : List ℕ → ℕ → ℕ × ℕ
+holder_and_round paper j = (holder_on paper j, gone_on paper j)
+
+abbrev pub all_gone_on : List ℕ → List (ℕ × ℕ)
+all_gone_on paper = from_place (holder_and_round paper) 0 (count_on paper)
+
 -- ---- the paper of a trader, by the lists and a sheet
 
 -- the stands of a list that are dearer than stand t: those before it
 unfoldable pub dearer_than : ℕ → List ℕ → List ℕ
-dearer_than t [] = []
-dearer_than t (u ∷ us) = cond (u == t) [] (u ∷ dearer_than t us)
+dearer_than t l = before_first (λ u. u == t) l
 
 -- for each of some stands its holder and the round in which that holder went out
 unfoldable pub gone_bytes : List ℕ → List ℕ → List ℕ

@@ -1,203 +1,178 @@
-// Checking a paper, by itself and the trader's list. A function `.._fault` tells the first fault, None where there is none. Bytes
-// that are missing count as 0, and their field is in fault.
-ghost use Rattle.std.specs.Prelude.{◌≡◌, [], length, ◌==◌, slice_index};
-ghost use Rattle.lists.specs.Format.{member, numbers, unless};
+// Checking a paper, by itself and the trader's list. Bytes that are missing count as 0, and their field is in fault.
+ghost use Rattle.std.specs.Prelude.{◌≡◌, ◌<◌, [], length, slice_index_or, false};
+ghost use Rattle.lists.specs.Format.{unless};
 ghost use Rattle.papers.specs.Paper.{count_on, dearer_than, own_on, ring_length, ring_on, stand_on};
-ghost use Rattle.papers.specs.Faults.{count_fault, dearer_fault, end_fault, field_fault, fields_fault, gone_fault, head_fault, holder_fault, in_place, length_fault, member_fault, own_fault, paper_check_fault, ring_fault, round_fault, stand_fault, tail_fault};
+ghost use Rattle.papers.specs.Faults.{count_fault, dearer_fault, end_fault, field_fault, fields_fault, gone_fault, head_fault, holder_fault, in_place, length_fault, member_fault, own_fault, owner, paper_check_fault, ring_fault, round_fault, stand_fault, tail_fault};
 
-use crate::bytes::dearer_count;
-use lists::bytes::{byte_at, number_at, number_in};
-use lists::reading::{MOST_TRADERS, read_list};
+use crate::list::{dearer_count, names};
+use crate::paper::Paper;
+use lists::reading::MOST_TRADERS;
+use lists::year::List;
 use refusals::Refusal;
 
-// Where the own number, the round, the stand got and the length of the ring stand.
-const OWN: usize = 0;
-
-const ROUND: usize = 2;
-
-const STAND: usize = 4;
-
-const MEMBERS: usize = 6;
-
-// The mark of a trader who was named before.
-const NAMED: u8 = 1;
-
-// A field is in fault where the paper ends before byte `end`, or where it is not right.
-fn field_fault(paper: &[u8], field: usize, end: usize, right: bool) -> Option<Refusal>
-    ensures { result ≡ field_fault paper.now field end right }
-{
-    if paper.len() < end || !right {
-        return Some(Refusal::PaperFault { field });
-    }
-    None
-}
-
-// Field 0: whose paper it is.
-fn own_fault(paper: &[u8]) -> Option<Refusal>
-    ensures { result ≡ own_fault paper.now }
-{
-    field_fault(paper, 0, 2, number_at(paper, OWN) < MOST_TRADERS)
-}
-
-// Field 1: the round in which the trader went out.
-fn round_fault(paper: &[u8]) -> Option<Refusal>
-    ensures { result ≡ round_fault paper.now }
-{
-    field_fault(paper, 1, 4, true)
-}
-
-// The list names the stand.
-fn listed(stands: &[u8], stand: u16) -> bool
-    ensures { result ≡ member stand (numbers stands.now) }
-{
-    dearer_count(stands, stand) < stands.len() / 2
-}
-
-// Field 2: the stand got, the own one or a listed one.
-fn stand_fault(stands: &[u8], paper: &[u8]) -> Option<Refusal>
-    ensures { result ≡ stand_fault (numbers stands.now) paper.now }
-{
-    let stand = number_at(paper, STAND);
-    let right = stand == number_at(paper, OWN) || listed(stands, stand);
-    field_fault(paper, 2, 6, right)
-}
-
-// Field 3: how many traders are on the ring, one just where the own stand is kept.
-fn length_fault(paper: &[u8]) -> Option<Refusal>
-    ensures { result ≡ length_fault paper.now }
-{
-    let members = number_at(paper, MEMBERS);
-    let keeps = number_at(paper, STAND) == number_at(paper, OWN);
-    let right = members > 0 && members <= MOST_TRADERS && (members == 1) == keeps;
-    field_fault(paper, 3, 8, right)
-}
-
-// The four fields before the ring's traders.
-fn head_fault(stands: &[u8], paper: &[u8]) -> Option<Refusal>
-    ensures { result ≡ head_fault (numbers stands.now) paper.now }
-{
-    own_fault(paper)
-        .or(round_fault(paper))
-        .or(stand_fault(stands, paper))
-        .or(length_fault(paper))
-}
-
-// The ring begins with the own trader and goes on with the holder of the stand got.
-fn in_place(paper: &[u8], k: u16) -> bool
-    ensures { result ≡ in_place paper.now k }
-{
-    let trader = number_at(paper, 8 + 2 * k as usize);
-    match k {
-        0 => trader == number_at(paper, OWN),
-        1 => trader == number_at(paper, STAND),
-        _ => true,
-    }
-}
-
-// The trader at place k of the ring. `named` has 1 at the traders before it on the ring.
-fn member_fault(paper: &[u8], k: u16, named: &[u8]) -> Option<Refusal>
-    ensures { result ≡ member_fault paper.now k (slice_index named.now (ring_on paper.now k) == 1) }
-{
-    let at = 8 + 2 * k as usize;
-    let trader = number_at(paper, at);
-    let right = trader < MOST_TRADERS
-        && in_place(paper, k)
-        && byte_at(named, trader as usize) != NAMED;
-    field_fault(paper, 4 + k as usize, at + 2, right)
-}
-
-// The traders of the ring: the own one first, then the holder of the stand got, and nobody twice.
-fn ring_fault(paper: &[u8]) -> Option<Refusal>
-    ensures { result ≡ ring_fault paper.now [] (ring_length paper.now) 0 }
-{
-    let members = number_at(paper, MEMBERS);
-    let mut named = [0u8; 4000];
-    for k in 0..members {
-        if let Some(fault) = member_fault(paper, k, &named) {
-            return Some(fault);
+impl<'a> Paper<'a> {
+    // A field is in fault where the paper ends before byte `end`, or where it is not right.
+    fn check_field(&self, field: usize, end: usize, right: bool) -> Result<(), Refusal>
+        ensures { result ≡ unless (field_fault self.now field end right) tt }
+    {
+        if self.as_bytes().len() < end || !right {
+            return Err(Refusal::PaperFault { field });
         }
-        let trader = number_at(paper, 8 + 2 * k as usize);
-        named[trader as usize] = NAMED;
+        Ok(())
     }
-    None
-}
 
-// The count of the dearer stands.
-fn count_fault(paper: &[u8], dearer: usize) -> Option<Refusal>
-    ensures { result ≡ count_fault paper.now dearer }
-{
-    let members = number_at(paper, MEMBERS) as usize;
-    let count = byte_at(paper, 8 + 2 * members) as usize;
-    field_fault(paper, 4 + members, 9 + 2 * members, count == dearer)
-}
-
-// The holder of the dearer stand at place j of the list, who is the one with the stand's number.
-fn holder_fault(paper: &[u8], j: u8, stand: u16) -> Option<Refusal>
-    ensures { result ≡ holder_fault paper.now j stand }
-{
-    let members = number_at(paper, MEMBERS) as usize;
-    let at = 9 + 2 * members + 4 * j as usize;
-    let field = 5 + members + 2 * j as usize;
-    field_fault(paper, field, at + 2, number_at(paper, at) == stand)
-}
-
-// The round in which that holder went out: an earlier one than the own.
-fn gone_fault(paper: &[u8], j: u8) -> Option<Refusal>
-    ensures { result ≡ gone_fault paper.now j }
-{
-    let members = number_at(paper, MEMBERS) as usize;
-    let at = 11 + 2 * members + 4 * j as usize;
-    let field = 6 + members + 2 * j as usize;
-    let earlier = number_at(paper, at) < number_at(paper, ROUND);
-    field_fault(paper, field, at + 2, earlier)
-}
-
-// Nothing follows the j dearer stands.
-fn end_fault(paper: &[u8], j: u8) -> Option<Refusal>
-    ensures { result ≡ end_fault paper.now j }
-{
-    let members = number_at(paper, MEMBERS) as usize;
-    if 9 + 2 * members + 4 * (j as usize) < paper.len() {
-        return Some(Refusal::PaperFault {
-            field: 5 + members + 2 * j as usize,
-        });
+    // The trader whose list it has to be; where the paper ends before its number, a number that nobody has.
+    fn owner(&self) -> u16
+        ensures { result ≡ owner self.now }
+    {
+        if self.as_bytes().len() < 2 {
+            return MOST_TRADERS;
+        }
+        self.own()
     }
-    None
-}
 
-// The dearer stands, each with its holder and the holder's round, and then nothing. Their count was found right.
-fn dearer_fault(stands: &[u8], paper: &[u8]) -> Option<Refusal>
-    requires { count_on paper.now ≡ length (dearer_than (stand_on paper.now) (numbers stands.now)) }
-    ensures { result ≡ dearer_fault paper.now (dearer_than (stand_on paper.now) (numbers stands.now)) 0 }
-{
-    let count = byte_at(paper, 8 + 2 * number_at(paper, MEMBERS) as usize);
-    for j in 0..count {
-        let stand = number_at(stands, 2 * j as usize);
-        if let Some(fault) = holder_fault(paper, j, stand).or(gone_fault(paper, j)) {
-            return Some(fault);
+    // Field 0: whose paper it is.
+    fn check_own(&self) -> Result<(), Refusal>
+        ensures { result ≡ unless (own_fault self.now) tt }
+    {
+        self.check_field(0, 2, self.own() < MOST_TRADERS)
+    }
+
+    // Field 1: the round in which the trader went out.
+    fn check_round(&self) -> Result<(), Refusal>
+        ensures { result ≡ unless (round_fault self.now) tt }
+    {
+        self.check_field(1, 4, true)
+    }
+
+    // Field 2: the stand got, the own one or a listed one.
+    fn check_stand(&self, list: &List) -> Result<(), Refusal>
+        ensures { result ≡ unless (stand_fault list.now self.now) tt }
+    {
+        let got = self.stand();
+        let right = got == self.own() || names(list, got);
+        self.check_field(2, 6, right)
+    }
+
+    // Field 3: how many traders are on the ring, one just where the own stand is kept.
+    fn check_length(&self) -> Result<(), Refusal>
+        ensures { result ≡ unless (length_fault self.now) tt }
+    {
+        let members = self.ring_length();
+        let keeps = self.stand() == self.own();
+        let right = members > 0 && members <= MOST_TRADERS && (members == 1) == keeps;
+        self.check_field(3, 8, right)
+    }
+
+    // The four fields before the ring's traders.
+    fn check_head(&self, list: &List) -> Result<(), Refusal>
+        ensures { result ≡ unless (head_fault list.now self.now) tt }
+    {
+        self.check_own()?;
+        self.check_round()?;
+        self.check_stand(list)?;
+        self.check_length()
+    }
+
+    // The ring begins with the own trader and goes on with the holder of the stand got.
+    fn in_place(&self, k: u16) -> bool
+        ensures { result ≡ in_place self.now k }
+    {
+        match k {
+            0 => self.trader(k) == self.own(),
+            1 => self.trader(k) == self.stand(),
+            _ => true,
         }
     }
-    end_fault(paper, count)
-}
 
-// The count of the dearer stands, and then each.
-fn tail_fault(stands: &[u8], paper: &[u8]) -> Option<Refusal>
-    ensures { result ≡ tail_fault paper.now (dearer_than (stand_on paper.now) (numbers stands.now)) }
-{
-    let dearer = dearer_count(stands, number_at(paper, STAND));
-    if let Some(fault) = count_fault(paper, dearer) {
-        return Some(fault);
+    // The trader at place k of the ring. `named` tells who stands before it on the ring.
+    fn check_trader(&self, k: u16, named: &[bool; 4000]) -> Result<u16, Refusal>
+        ensures { result ≡ unless (member_fault self.now k (slice_index_or named.now (ring_on self.now k) false)) (ring_on self.now k) }
+    {
+        let trader = self.trader(k);
+        let right = trader < MOST_TRADERS && self.in_place(k) && !named[trader as usize];
+        self.check_field(4 + k as usize, self.trader_place(k) + 2, right)?;
+        Ok(trader)
     }
-    dearer_fault(stands, paper)
-}
 
-// All fields of a paper, for the trader whose list has these bytes of stands.
-fn fields_fault(stands: &[u8], paper: &[u8]) -> Option<Refusal>
-    ensures { result ≡ fields_fault (numbers stands.now) paper.now }
-{
-    head_fault(stands, paper)
-        .or(ring_fault(paper))
-        .or(tail_fault(stands, paper))
+    // The traders of the ring: the own one first, then the holder of the stand got, and nobody twice.
+    fn check_ring(&self) -> Result<(), Refusal>
+        ensures { result ≡ unless (ring_fault self.now [] (ring_length self.now) 0) tt }
+    {
+        let mut named = [false; 4000];
+        for k in 0..self.ring_length() {
+            let trader = self.check_trader(k, &named)?;
+            named[trader as usize] = true;
+        }
+        Ok(())
+    }
+
+    // The count of the dearer stands: of those before the stand got, in the list.
+    fn check_count(&self, list: &List) -> Result<(), Refusal>
+        ensures { result ≡ unless (count_fault self.now (length (dearer_than (stand_on self.now) list.now))) tt }
+    {
+        let dearer = dearer_count(list, self.stand());
+        let field = 4 + self.ring_length() as usize;
+        self.check_field(field, self.count_place() + 1, self.count() == dearer)
+    }
+
+    // The holder of the dearer stand at place j of the list, who is the one with the stand's number.
+    fn check_holder(&self, j: u8, stand: u16) -> Result<(), Refusal>
+        ensures { result ≡ unless (holder_fault self.now j stand) tt }
+    {
+        let field = 5 + self.ring_length() as usize + 2 * j as usize;
+        self.check_field(field, self.holder_place(j) + 2, self.holder(j) == stand)
+    }
+
+    // The round in which that holder went out: an earlier one than the own.
+    fn check_gone(&self, j: u8) -> Result<(), Refusal>
+        ensures { result ≡ unless (gone_fault self.now j) tt }
+    {
+        let field = 6 + self.ring_length() as usize + 2 * j as usize;
+        self.check_field(field, self.holder_place(j) + 4, self.gone_in(j) < self.round())
+    }
+
+    // Nothing follows the dearer stands.
+    fn check_end(&self) -> Result<(), Refusal>
+        ensures { result ≡ unless (end_fault self.now (count_on self.now)) tt }
+    {
+        if self.size() < self.as_bytes().len() {
+            return Err(Refusal::PaperFault {
+                field: 5 + self.ring_length() as usize + 2 * self.count() as usize,
+            });
+        }
+        Ok(())
+    }
+
+    // The dearer stands, each with its holder and the holder's round, and then nothing. Their count was found right.
+    fn check_dearer(&self, list: &List) -> Result<(), Refusal>
+        requires { count_on self.now ≡ length (dearer_than (stand_on self.now) list.now) }
+        ensures { result ≡ unless (dearer_fault self.now (dearer_than (stand_on self.now) list.now) 0) tt }
+    {
+        for (j, stand) in (0..self.count()).zip(list.stands()) {
+            self.check_holder(j, stand)?;
+            self.check_gone(j)?;
+        }
+        self.check_end()
+    }
+
+    // The count of the dearer stands, and then each.
+    fn check_tail(&self, list: &List) -> Result<(), Refusal>
+        ensures { result ≡ unless (tail_fault self.now (dearer_than (stand_on self.now) list.now)) tt }
+    {
+        self.check_count(list)?;
+        self.check_dearer(list)
+    }
+
+    // All fields, for the trader whose list it is: hands on whose paper it is.
+    fn check_fields(&self, list: &List) -> Result<u16, Refusal>
+        ensures { result ≡ unless (fields_fault list.now self.now) (own_on self.now) }
+    {
+        self.check_head(list)?;
+        self.check_ring()?;
+        self.check_tail(list)?;
+        Ok(self.own())
+    }
 }
 
 // Checks a paper by itself and the trader's list, which is its count's byte and its stands: hands on whose paper it is, or the
@@ -205,12 +180,9 @@ fn fields_fault(stands: &[u8], paper: &[u8]) -> Option<Refusal>
 pub fn check_paper(list: &[u8], paper: &[u8]) -> Result<u16, Refusal>
     ensures { result ≡ unless (paper_check_fault list.now paper.now) (own_on paper.now) }
 {
-    let own = number_in(paper, OWN).unwrap_or(MOST_TRADERS);
-    let stands = read_list(list, own)?;
-    match fields_fault(stands, paper) {
-        Some(fault) => Err(fault),
-        None => Ok(number_at(paper, OWN)),
-    }
+    let paper = Paper::of(paper);
+    let list = List::read(list, paper.owner())?;
+    paper.check_fields(&list)
 }
 
 #[cfg(test)]

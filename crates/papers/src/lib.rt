@@ -1,8 +1,10 @@
 // A trader's paper: it shows the ring, and that nobody passed the trader over, to whoever has that trader's list.
 #![tactic(auto)]
 
-mod bytes;
 pub mod checking;
+mod list;
+pub mod paper;
 pub mod splitting;
 pub mod theorems;
+mod writer;
 pub mod writing;

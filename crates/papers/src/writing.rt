@@ -1,106 +1,58 @@
 // Writing a trader's paper from the lists of a year and a sheet.
-ghost use Rattle.std.specs.Prelude.{◌≡◌, ◌+◌, ◌*◌, ◌<◌, ◌≤◌, ◌++◌, length, None};
-ghost use Rattle.lists.specs.Format.{bytes_of, encode_stands, lists_of, number_at, numbers, unless};
-ghost use Rattle.sheet.specs.Sheet.{check_fault, ring_of};
-ghost use Rattle.papers.specs.Paper.{dearer_than, gone_bytes, left_by, paper_fault, paper_for, paper_of, room_fault, trader_fault, written};
+ghost use Rattle.std.specs.Prelude.{◌≡◌, ◌<◌, length};
+ghost use Rattle.std.specs.Option.{option_or};
+ghost use Rattle.lists.specs.Format.{lists_of, unless};
+ghost use Rattle.sheet.specs.Sheet.{ring_of};
+ghost use Rattle.papers.specs.Paper.{left_by, paper_fault, paper_for, paper_of, room_fault, trader_fault};
 
-use crate::bytes::{dearer_count, put};
-use lists::bytes::number_at;
-use lists::reading::{list_at, start_of};
+use crate::list::dearer_count;
+use crate::writer::Writer;
+use lists::year::{List, Year};
 use refusals::{Lent, Refusal};
-use sheet::checking::check;
-use sheet::entries::{round_in, stand_in};
+use sheet::accepted::AcceptedSheet;
 
 // The longest paper has 8 + 2 * 4000 + 1 + 4 * 40 bytes: a ring of all traders, and a list of 40 dearer stands.
 pub const MOST_PAPER: usize = 8169;
 
-// How many traders are on a trader's ring.
-fn ring_length(sheet: &[u8], n: u16, trader: u16) -> u16
-    ensures { result ≡ length (ring_of sheet.now n trader) }
-{
-    let mut at = trader;
-    for k in 0..n {
-        at = stand_in(sheet, at);
-        if at == trader {
-            return k + 1;
-        }
-    }
-    n
-}
-
-// Writes the four numbers before the ring's traders.
-fn write_head(out: &mut [u8], own: u16, round: u16, stand: u16, members: u16)
-    requires { 8 ≤ length out.old }
-    ensures { out.new ≡ written 0 (bytes_of own ++ (bytes_of round ++ (bytes_of stand ++ bytes_of members))) out.old }
-{
-    put(out, 0, own);
-    put(out, 2, round);
-    put(out, 4, stand);
-    put(out, 6, members);
-}
-
-// Writes the traders of a trader's ring.
-fn write_ring(out: &mut [u8], sheet: &[u8], n: u16, trader: u16, members: u16)
-    requires { (members ≡ length (ring_of sheet.now n trader)) × (8 + 2 * members ≤ length out.old) }
-    ensures { out.new ≡ written 8 (encode_stands (ring_of sheet.now n trader)) out.old }
-{
-    let mut at = trader;
-    for k in 0..members {
-        put(out, 8 + 2 * k as usize, at);
-        at = stand_in(sheet, at);
-    }
-}
-
-// Writes the holder and the round of each dearer stand.
-fn write_gone(out: &mut [u8], at: usize, sheet: &[u8], stands: &[u8], stand: u16, dearer: usize)
-    requires room { at + 4 * dearer ≤ length out.old }
-    requires dearer { dearer ≡ length (dearer_than stand (numbers stands.now)) }
-    ensures { out.new ≡ written at (gone_bytes sheet.now (dearer_than stand (numbers stands.now))) out.old }
-{
-    for j in 0..dearer {
-        let holder = number_at(stands, 2 * j);
-        put(out, at + 4 * j, holder);
-        put(out, at + 4 * j + 2, round_in(sheet, holder));
-    }
-}
-
-// Writes the paper of a trader whose list has these bytes of stands: its length.
+// Writes the paper of a trader with that list, whose ring has that many members: its length.
 fn write_for(
-    sheet: &[u8],
-    n: u16,
+    sheet: &AcceptedSheet,
     trader: u16,
-    stands: &[u8],
+    members: u16,
+    list: &List,
     out: &mut [u8],
 ) -> Result<usize, Refusal>
-    requires { length stands.now ≤ 80 }
-    ensures answer { result ≡ unless (room_fault (length out.old) (paper_for sheet.now n trader (numbers stands.now))) (length (paper_for sheet.now n trader (numbers stands.now))) }
-    ensures out { out.new ≡ left_by result (paper_for sheet.now n trader (numbers stands.now)) out.old }
+    requires { members ≡ length (ring_of sheet.now.bytes (length sheet.now.lists) trader) }
+    ensures answer { result ≡ unless (room_fault (length out.old) (paper_for sheet.now.bytes (length sheet.now.lists) trader list.now)) (length (paper_for sheet.now.bytes (length sheet.now.lists) trader list.now)) }
+    ensures out { out.new ≡ left_by result (paper_for sheet.now.bytes (length sheet.now.lists) trader list.now) out.old }
 {
-    let members = ring_length(sheet, n, trader);
-    let stand = stand_in(sheet, trader);
-    let dearer = dearer_count(stands, stand);
-    let count_at = 8 + 2 * members as usize;
-    let length = count_at + 1 + 4 * dearer;
+    let stand = sheet.stand(trader);
+    let dearer = dearer_count(list, stand);
+    let length = 8 + 2 * members as usize + 1 + 4 * dearer as usize;
     if out.len() < length {
         return Err(Refusal::TooShort {
             lent: Lent::Results,
         });
     }
-    write_head(out, trader, round_in(sheet, trader), stand, members);
-    write_ring(out, sheet, n, trader, members);
-    out[count_at] = dearer as u8;
-    write_gone(out, count_at + 1, sheet, stands, stand, dearer);
+    let mut writer = Writer::over(out);
+    writer.head(trader, sheet.round(trader), stand, members);
+    writer.ring(sheet.ring(trader));
+    writer.byte(dearer);
+    writer.gone(sheet, list, dearer);
     Ok(length)
 }
 
-// A trader who does not exist has no paper.
-fn trader_fault(n: u16, trader: u16) -> Option<Refusal>
-    ensures { result ≡ trader_fault n trader }
+// Writes the paper of a trader by an accepted sheet: its length. A refusal leaves `out` as it was.
+pub fn write_paper(sheet: &AcceptedSheet, trader: u16, out: &mut [u8]) -> Result<usize, Refusal>
+    ensures answer { result ≡ unless (option_or (trader_fault (length sheet.now.lists) trader) (room_fault (length out.old) (paper_of sheet.now.lists sheet.now.bytes trader))) (length (paper_of sheet.now.lists sheet.now.bytes trader)) }
+    ensures out { out.new ≡ left_by result (paper_of sheet.now.lists sheet.now.bytes trader) out.old }
 {
-    if trader >= n {
-        return Some(Refusal::PaperFault { field: 0 });
+    if trader >= sheet.traders() {
+        return Err(Refusal::PaperFault { field: 0 });
     }
-    None
+    let list = sheet.year().list(trader).unwrap();
+    let members = sheet.ring(trader).count() as u16;
+    write_for(sheet, trader, members, &list, out)
 }
 
 // Writes the paper of a trader by the lists of a year and a sheet for them: its length. What the checker of sheets refuses is
@@ -109,28 +61,9 @@ pub fn paper(bytes: &[u8], sheet: &[u8], trader: u16, out: &mut [u8]) -> Result<
     ensures answer { result ≡ unless (paper_fault bytes.now sheet.now trader (length out.old)) (length (paper_of (lists_of bytes.now) sheet.now trader)) }
     ensures out { out.new ≡ left_by result (paper_of (lists_of bytes.now) sheet.now trader) out.old }
 {
-    let n = check(bytes, sheet)?;
-    write_checked(bytes, sheet, n, trader, out)
-}
-
-// Writes the paper of a trader by lists and a sheet that were accepted.
-fn write_checked(
-    bytes: &[u8],
-    sheet: &[u8],
-    n: u16,
-    trader: u16,
-    out: &mut [u8],
-) -> Result<usize, Refusal>
-    requires accepted { check_fault bytes.now sheet.now ≡ None }
-    requires traders { n ≡ number_at bytes.now 0 }
-    ensures answer { result ≡ unless (paper_fault bytes.now sheet.now trader (length out.old)) (length (paper_of (lists_of bytes.now) sheet.now trader)) }
-    ensures out { out.new ≡ left_by result (paper_of (lists_of bytes.now) sheet.now trader) out.old }
-{
-    if let Some(fault) = trader_fault(n, trader) {
-        return Err(fault);
-    }
-    let stands = list_at(bytes, start_of(bytes, trader));
-    write_for(sheet, n, trader, stands, out)
+    let year = Year::read(bytes)?;
+    let sheet = AcceptedSheet::check(&year, sheet)?;
+    write_paper(&sheet, trader, out)
 }
 
 #[cfg(test)]
@@ -175,15 +108,11 @@ mod tests {
     // the paper of a trader passes with the trader's list
     fn passes(bytes: &[u8], sheet: &[u8], trader: u16) -> bool {
         let mut out = [0; 64];
-        let at = start_of(bytes, trader);
-        let end = at
-            .saturating_add(1)
-            .saturating_add(list_at(bytes, at).len());
-        let Ok(size) = paper(bytes, sheet, trader, &mut out) else {
+        let (Ok(size), Ok(year)) = (paper(bytes, sheet, trader, &mut out), Year::read(bytes)) else {
             return false;
         };
-        match (bytes.get(at..end), out.get(0..size)) {
-            (Some(list), Some(written)) => check_paper(list, written).is_ok(),
+        match (year.list(trader), out.get(0..size)) {
+            (Some(list), Some(written)) => check_paper(list.as_bytes(), written).is_ok(),
             _ => false,
         }
     }

@@ -1,37 +1,37 @@
-use Rattle.std.proofs.Common.{length, refl, ◌∙◌}
-use Rattle.lists.specs.Format.{numbers}
-use Rattle.papers.specs.Paper.{paper_for}
+use Rattle.std.proofs.Common.{◌≡◌, ◌+◌, ◌*◌, ◌++◌, length, drop, refl, ap, ◌∙◌, arith, rules}
+use Rattle.lists.specs.Format.{bytes_of, encode_stands}
+use Rattle.papers.specs.Paper.{paper_for, written}
 use Rattle.papers.proofs.Sources.{no_room, enough_room}
 use Rattle.papers.proofs.Writes.{paper_size, paper_written}
 use Rattle.papers.proofs.writing.write_for.Goals as goal
 
-pub returns-then-out-length : goal.returns-then-out-length
-returns-then-out-length c =
-    let sheet = c.args.sheet.now in
-    let l = numbers c.args.stands.now in
-    let size = paper_size sheet c.args.n c.args.trader c.ring_length-members.result c.dearer_count-dearer.result c.stand_in-stand.result _ l
-    c.args.out.now refl c.stand_in-stand.ensures c.ring_length-members.ensures c.dearer_count-dearer.ensures.answer in
-    record {
-      answer = no_room (length c.args.out.now) _ (paper_for sheet c.args.n c.args.trader l) size c.if-out-length.true;
-      out = refl;
-    }
+pub returns-then-out-length-clause-answer : goal.returns-then-out-length-clause-answer
+returns-then-out-length-clause-answer c =
+    let sheet = c.args.sheet.now.bytes in
+    let n = length c.args.sheet.now.lists in
+    let size = paper_size sheet n c.args.trader c.args.members _ c.stand-stand.result c.dearer_count-dearer.result c.args.list.now c.args.out.now c.requires refl
+    c.stand-stand.ensures.stand c.dearer_count-dearer.ensures.answer in
+    no_room (length c.args.out.now) _ (paper_for sheet n c.args.trader c.args.list.now) size c.if-out-length.true
 
 pub returns : goal.returns
 returns c =
-    let sheet = c.args.sheet.now in
-    let l = numbers c.args.stands.now in
-    let before = c.args.out.now in
-    let n = c.args.n in
+    let sheet = c.args.sheet.now.bytes in
+    let n = length c.args.sheet.now.lists in
     let i = c.args.trader in
-    let members = c.ring_length-members.result in
+    let members = c.args.members in
+    let round = c.round.result in
+    let stand = c.stand-stand.result in
     let dearer = c.dearer_count-dearer.result in
-    let stand = c.stand_in-stand.result in
-    let round = c.round_in.result in
-    let size = paper_size sheet n i members dearer stand round l before c.round_in.ensures c.stand_in-stand.ensures c.ring_length-members.ensures c.dearer_count-dearer.ensures.answer in
+    let l = c.args.list.now in
+    let before = c.args.out.now in
+    let size = paper_size sheet n i members round stand dearer l before c.requires c.round.ensures c.stand-stand.ensures.stand c.dearer_count-dearer.ensures.answer in
+    let one : c.head.new.self.out.now ≡ written 0 (bytes_of c.args.trader ++ (bytes_of c.round.result ++ (bytes_of c.stand-stand.result ++ bytes_of c.args.members))) c.args.out.now =
+    c.head.ensures.out ∙ rw (c.over-writer.ensures.at, c.over-writer.ensures.out) in
+    let two = c.ring-2.ensures.out ∙ ap (λ ring. written c.head.new.self.at (encode_stands ring) c.head.new.self.out.now) c.ring.ensures.ring in
+    let ring = ap length c.ring.ensures.ring in
+    let done = paper_written sheet n i members round stand dearer l before c.requires c.round.ensures c.stand-stand.ensures.stand c.dearer_count-dearer.ensures.answer c.if-out-length.false
+    _ _ _ _ _ _ _ one two (omega arith) c.byte.ensures.out (omega arith) c.gone.ensures.out (omega arith) in
     record {
       answer = enough_room (length before) _ (paper_for sheet n i l) size c.if-out-length.false;
-      out =
-          paper_written sheet n i members dearer stand round l before c.round_in.ensures c.stand_in-stand.ensures c.ring_length-members.ensures c.dearer_count-dearer.ensures.answer c.if-out-length.false
-          c.write_head.new.out c.write_ring.new.out c.write_gone.new.out c.write_head.ensures c.write_ring.ensures
-          (c.write_ring.auto.out ∙ c.write_head.auto.out) c.write_gone.ensures;
+      out = search rules;
     }
