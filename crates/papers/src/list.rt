@@ -3,7 +3,7 @@ ghost use Rattle.std.specs.Prelude.{◌≡◌, ◌≤◌, length};
 ghost use Rattle.lists.specs.Format.{member};
 ghost use Rattle.papers.specs.Paper.{dearer_than};
 
-use lists::year::List;
+use lists::list::List;
 
 // The list names the stand.
 #[tactic(auto, using(crate::proofs::Places::any_member))]

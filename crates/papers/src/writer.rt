@@ -3,7 +3,7 @@ ghost use Rattle.std.specs.Prelude.{◌≡◌, ◌+◌, ◌*◌, ◌≤◌, ◌+
 ghost use Rattle.lists.specs.Format.{bytes_of, encode_stands};
 ghost use Rattle.papers.specs.Paper.{gone_bytes, written};
 
-use lists::year::List;
+use lists::list::List;
 use sheet::accepted::{AcceptedSheet, Ring};
 
 // Bytes that are lent to be written, of which those before `at` have been.

@@ -7,7 +7,8 @@ ghost use Rattle.papers.specs.Paper.{left_by, paper_fault, paper_for, paper_of, 
 
 use crate::list::dearer_count;
 use crate::writer::Writer;
-use lists::year::{List, Year};
+use lists::list::List;
+use lists::year::Year;
 use refusals::{Lent, Refusal};
 use sheet::accepted::AcceptedSheet;
 

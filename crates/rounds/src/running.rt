@@ -6,7 +6,8 @@ ghost use Rattle.theory.specs.Trade.{none_in, round_count};
 ghost use Rattle.rounds.specs.Run.{exchanged, outs_of, results_left, results_of, room_fault, run_fault, work_left};
 ghost use Rattle.rounds.specs.Turn.{all_pointed, one_pointed};
 
-use lists::year::{List, Year};
+use lists::list::List;
+use lists::year::Year;
 use pointing::point_to;
 use refusals::{Lent, Refusal};
 use rings::mark_rings;

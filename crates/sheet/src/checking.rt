@@ -6,7 +6,8 @@ ghost use Rattle.sheet.specs.Sheet.{AcceptsExactly, AcceptsWhatWasWritten, check
 
 use crate::accepted::AcceptedSheet;
 use crate::entries::{round_in, stand_in};
-use lists::year::{List, Year};
+use lists::list::List;
+use lists::year::Year;
 use refusals::Refusal;
 
 // The sheet has an entry for each trader, and no more.

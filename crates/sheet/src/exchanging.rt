@@ -1,11 +1,11 @@
 // The public exchange: lists in, results and sheet out.
 ghost use Rattle.std.specs.Prelude.{◌≡◌, ◌*◌, length};
-ghost use Rattle.lists.specs.Format.{lists_of, unless};
+ghost use Rattle.lists.specs.Format.{fault, lists_of, number_at, unless};
 ghost use Rattle.rounds.specs.Run.{exchanged, results_left};
 ghost use Rattle.sheet.specs.Exchange.{PromisedBy, entries, exchange_fault, lent_fault, sheet_left, work_cleared};
 
 use crate::entries::write_entry;
-use lists::reading::read;
+use lists::year::Year;
 use refusals::{Lent, Refusal};
 use rounds::running::{Exchanged, run_rounds};
 
@@ -23,7 +23,7 @@ pub fn exchange(
     ensures work { work.new ≡ work_cleared result (lists_of bytes.now) work.old }
     ensures promise { PromisedBy result bytes.now results.new sheet.new }
 {
-    let n = read(bytes)?;
+    let n = traders_of(bytes)?;
     check_lent(n, results.len(), sheet.len(), work.len())?;
     let n = n as usize;
     let results = &mut results[..n];
@@ -33,6 +33,14 @@ pub fn exchange(
     write_sheet(sheet, results, work);
     work.fill(0);
     Ok(exchanged)
+}
+
+// How many traders the lists of a year have.
+#[tactic(auto, using(lists::proofs::Positions::count_of_lists))]
+fn traders_of(bytes: &[u8]) -> Result<u16, Refusal>
+    ensures { result ≡ unless (fault bytes.now) (number_at bytes.now 0) }
+{
+    Ok(Year::read(bytes)?.traders())
 }
 
 // Each lent slice is long enough for n traders, by the lengths of the slices.
