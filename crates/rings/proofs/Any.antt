@@ -1,6 +1,5 @@
 -- A trader whom any walk of one or more steps brings back is on a ring: as many steps as there are traders are enough.
-use Rattle.std.proofs.Common.{◌≡◌, ℕ, zero, suc, ◌+◌, ◌-◌, ◌<◌, ◌≤◌, true, eqb, List, length, get_or, set, replicate, sym, ap, ◌∙◌, inl, inr, arith, length-set}
-use Rattle.std.proofs.lemmas.List.Sums.{count_by-le-length}
+use Rattle.std.proofs.Common.{◌≡◌, ℕ, zero, suc, ◌+◌, ◌-◌, ◌<◌, ◌≤◌, true, List, length, get_or, set, replicate, sym, ap, ◌∙◌, inl, inr, arith, length-set}
 use lib.ListN.{length-replicate, get_or-replicate}
 use Rattle.std.proofs.lemmas.Grind.{common_steps}
 use Rattle.std.proofs.lemmas.Bool.{cases_eq, cases_lt}
@@ -12,8 +11,7 @@ use Rattle.rings.proofs.Marks.{walked_none, walked_more}
 -- a walk that goes on until it comes to nobody or to somebody met before
 walk_exists : (next : List ℕ) (k : ℕ) (m : List ℕ) (at : ℕ) → length m ≡ length next → unmet m ≤ k →
     (m' : List ℕ) × (e : ℕ) × Walked next m m' 1 at e k
-walk_exists next zero m at len few =
-    (m, at, walked_none next m 1 at 0 (λ l z. grind (arith, common_steps)))
+walk_exists next zero m at len few = (m, at, walked_none next m 1 at 0 (λ l z. grind (arith, common_steps)))
 walk_exists next (suc k) m at len few =
     elim (cases_lt at (length next)) [
       | inr l ↦ (m, at, walked_none next m 1 at (suc k) (λ b. absurd (omega arith)))
@@ -32,7 +30,7 @@ soon_back next i k l b =
     let n = length next in
     let zeros = replicate (length next) 0 in
     let len : length zeros ≡ n = length-replicate {A = ℕ} n 0 in
-    let t = walk_exists next n zeros i len (let u = count_by-le-length (λ x. eqb x 0) zeros in omega arith) in
+    let t = walk_exists next n zeros i len (grind (arith, common_steps)) in
     go t.0 t.1 t.2
   where
     go : (m' : List ℕ) (e : ℕ) → Walked next (replicate (length next) 0) m' 1 i e (length next) →
@@ -56,5 +54,4 @@ soon_back next i k l b =
 pub ring_any : (next : List ℕ) (i k : ℕ) → i < length next → walk_along next (suc k) i ≡ i → on_ring_of next i ≡ true
 unfolding on_ring_of
 ring_any next i k l b =
-    let t = soon_back next i k l b in
-    grind (arith, back_from next i (length next) t.0 t.1 t.2)
+    let t = soon_back next i k l b in grind (arith, back_from next i (length next) t.0 t.1 t.2)

@@ -40,9 +40,7 @@ module _ (next m m' : List ℕ) (i e s : ℕ) (D : Done next m i) (W : Walked ne
   start_met below h = go W.count refl
     where
       go : (d : ℕ) → W.count ≡ d → ⊥
-      go zero q =
-          let u : i ≡ e = sym (ap (λ k. walk_along next k i) q) ∙ W.ends in
-          grind (arith, W.stops)
+      go zero q = let u : i ≡ e = sym (ap (λ k. walk_along next k i) q) ∙ W.ends in grind (arith, W.stops)
       go (suc d) q = let u = (W.way 0 (omega arith)).2 in omega arith
 
   walked_closed : (y : ℕ) → y < length next → step next y < length next → (get_or m' y 0 ≡ 0 → ⊥) → get_or m' (step next y) 0 ≡ 0 → ⊥
@@ -85,12 +83,10 @@ module _ (next m m' : List ℕ) (i e s : ℕ) (D : Done next m i) (W : Walked ne
       Marked z = z < length next → get_or m z 0 ≡ 0 → ⊥
 
       steps_marked : (z : ℕ) → Marked z → Marked (step next z)
-      steps_marked z p sl v =
-          grind (arith, D.half.closed z, step_past)
+      steps_marked z p sl v = grind (arith, D.half.closed z, step_past)
 
       met_marked : Marked e
-      met_marked l v =
-          grind (arith, W.each e, way_mark, W.stops, W.same_length, D.half.same_length, other)
+      met_marked l v = grind (arith, W.each e, way_mark, W.stops, W.same_length, D.half.same_length, other)
 
       end_marked : (y : ℕ) → (t : (j : ℕ) × (j < W.count) × (walk_along next j i ≡ y)) → Marked (walk_along next (W.count - t.0) y)
       end_marked y t = subst Marked (sym (way_end y t)) met_marked

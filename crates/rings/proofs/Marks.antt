@@ -22,8 +22,7 @@ walked_none next m w at k stop = record {
 -- the mark of the trader with whom a walk begins
 first_mark : (next m m' : List ℕ) (w at e k : ℕ) → length m ≡ length next → at < length next → 0 < w →
     Walked next (set m at w) m' w (step next at) e k → get_or m' at 0 ≡ w
-first_mark next m m' w at e k len below pos W =
-    grind (arith, common_steps)
+first_mark next m m' w at e k len below pos W = grind (arith, common_steps)
 
 was_unmet : (m : List ℕ) (at x w : ℕ) → at < length m → 0 < w → get_or (set m at w) x 0 ≡ 0 → get_or m x 0 ≡ 0
 was_unmet m at x w below pos h = grind (arith, common_steps)
@@ -67,5 +66,5 @@ walked_on next m m' w at e k k' len below zero_mark pos less W =
     walked_more next m m' w at e k k' len below zero_mark pos less
     (subst (λ to. Walked next (set m at w) m' w to e k) (get_or_default next at 0 (length next) below) W)
 
--- what a step of a walk needs to be proved
+-- what the check needs of a walk's steps
 pub ruleset walk_steps = (walked_none, walked_on, common_steps)
