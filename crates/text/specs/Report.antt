@@ -13,7 +13,7 @@ keeps results i = stand_got results i == i
 
 -- how many traders do not have the own stand; `i` is the number of the first whose stand is given
 abbrev pub moved_from : ℕ → List ℕ → ℕ
-moved_from i stands = count_by (λ p. not (p.1 == p.0)) (enumerate_from i stands)
+moved_from i stands = count_by (λ (trader, stand). not (stand == trader)) (enumerate_from i stands)
 
 -- How many traders move.
 abbrev pub moved : List ℕ → ℕ
