@@ -107,7 +107,7 @@ module _ (sheet : List ℕ) (n i members round stand dearer : ℕ) (l d : List �
 
     parts : ((head_bytes sheet n i ++ encode_stands (ring_of sheet n i)) ++ (dearer ∷ [])) ++ gone_bytes sheet (take dearer l) ≡ paper_for sheet n i l
     unfolding paper_for
-    parts = rw (append_assoc, append_assoc, dearer_first (stand_in sheet i) l dearer dearer_is, dearer_is)
+    parts = simp append_assoc (rw (dearer_first (stand_in sheet i) l dearer dearer_is, dearer_is))
 
     pub paper_written : all ≡ paper_for sheet n i l ++ drop (8 + 2 * members + 1 + 4 * dearer) d
     paper_written =
