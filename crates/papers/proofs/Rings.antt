@@ -1,10 +1,9 @@
 -- How the first fault of a paper's ring, and of its dearer stands, is found a step at a time.
-use Rattle.std.proofs.Common.{◌≡◌, ℕ, suc, ◌+◌, ◌-◌, ◌<◌, ◌≤◌, Bool, true, false, eqb, List, [], ◌∷◌, length, get_or, set, replicate, take, None, Option, refl, sym, ap, ◌∙◌, add-one, inl, inr, arith}
+use Rattle.std.proofs.Common.{◌≡◌, ℕ, suc, ◌+◌, ◌-◌, ◌<◌, ◌≤◌, Bool, true, false, List, ◌∷◌, length, get_or, set, replicate, take, None, sym, ap, ◌∙◌, add-one, inl, inr, arith}
 use Rattle.std.specs.Option.{option_or}
 use Rattle.std.proofs.lemmas.Bool.{cases_eq}
 use Rattle.std.proofs.lemmas.Grind.{common_steps}
 use Rattle.std.proofs.lemmas.List.{get_or-set_same, get_or-set_other}
-use Rattle.refusals.specs.declared.Refusal.{Refusal}
 use Rattle.lists.specs.Format.{list_bytes, member, numbers, own_list_fault}
 use Rattle.papers.specs.Paper.{ring_on}
 use Rattle.papers.specs.Faults.{fields_fault, member_fault, owner, paper_check_fault, ring_fault, holder_fault, gone_fault, end_fault, dearer_fault}

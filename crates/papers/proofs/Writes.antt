@@ -1,9 +1,8 @@
 -- What a slice holds after numbers were written into it one after the other.
-use Rattle.std.proofs.Common.{◌≡◌, ℕ, zero, suc, ◌+◌, ◌*◌, ◌<◌, ◌≤◌, List, [], ◌∷◌, ◌++◌, length, get_or, take, drop, set, sym, refl, ap, ◌∙◌, arith, length-append}
+use Rattle.std.proofs.Common.{◌≡◌, ℕ, zero, suc, ◌+◌, ◌*◌, ◌<◌, ◌≤◌, List, [], ◌∷◌, ◌++◌, length, take, drop, sym, refl, ap, ◌∙◌, arith, length-append}
 use lib.Seq.{paste}
-use Rattle.std.proofs.lemmas.Grind.{common_steps}
-use Rattle.std.proofs.lemmas.List.Edits.{paste_all, paste_more, paste_none, paste-paste}
-use Rattle.std.proofs.lemmas.List.{append_assoc, length-take-le, take-append-drop, take_more}
+use Rattle.std.proofs.lemmas.List.Edits.{paste_all, paste-paste}
+use Rattle.std.proofs.lemmas.List.{append_assoc, take-append-drop}
 use Rattle.lists.specs.Format.{bytes_of, encode_stands}
 use Rattle.lists.proofs.Encoding.{length_of_stands}
 use Rattle.sheet.specs.Sheet.{ring_of, round_in, stand_in}
@@ -26,9 +25,6 @@ written_more at next xs ys d is room =
 pub written_next : (at next : ℕ) (xs ys d e f : List ℕ) → e ≡ written at xs d → f ≡ written next ys e → next ≡ at + length xs → at ≤ length d →
     f ≡ written at (xs ++ ys) d
 written_next at next xs ys d e f one two is room = two ∙ (ap (written next ys) one ∙ written_more at next xs ys d is room)
-
-pub length_written : (at : ℕ) (xs d : List ℕ) → at + length xs ≤ length d → length (written at xs d) ≡ length d
-length_written at xs d room = grind (arith, common_steps)
 
 -- ---- the parts of a paper
 
@@ -111,7 +107,7 @@ module _ (sheet : List ℕ) (n i members round stand dearer : ℕ) (l d : List �
 
     parts : ((head_bytes sheet n i ++ encode_stands (ring_of sheet n i)) ++ (dearer ∷ [])) ++ gone_bytes sheet (take dearer l) ≡ paper_for sheet n i l
     unfolding paper_for
-    parts = rw (append_assoc, append_assoc, dearer_first (stand_in sheet i) l dearer dearer_is, dearer_is)
+    parts = simp append_assoc (rw (dearer_first (stand_in sheet i) l dearer dearer_is, dearer_is))
 
     pub paper_written : all ≡ paper_for sheet n i l ++ drop (8 + 2 * members + 1 + 4 * dearer) d
     paper_written =

@@ -129,7 +129,11 @@ impl<'a> Paper<'a> {
         ensures { result ≡ unless (gone_fault self.now j) tt }
     {
         let field = 6 + self.ring_length() as usize + 2 * j as usize;
-        self.check_field(field, self.holder_place(j) + 4, self.gone_in(j) < self.round())
+        self.check_field(
+            field,
+            self.holder_place(j) + 4,
+            self.gone_in(j) < self.round(),
+        )
     }
 
     // Nothing follows the dearer stands.

@@ -139,7 +139,8 @@ impl<'a> Paper<'a> {
 
     // How many bytes it has, as its own numbers say.
     pub fn size(&self) -> usize
-        ensures { result ≡ count_place self.now + 1 + 4 * count_on self.now }
+        ensures size { result ≡ count_place self.now + 1 + 4 * count_on self.now }
+        ensures bound { result ≤ 132099 }
     {
         self.holder_place(self.count())
     }
@@ -239,8 +240,14 @@ mod tests {
     #[test]
     fn a_short_paper(rt: HostRuntime) {
         let paper = Paper::of(&RING[..11]);
-        assert_eq!(rt; (paper.own(), paper.ring_length(), paper.count()), (2, 3, 0));
+        assert_eq!(rt;
+            (paper.own(), paper.ring_length(), paper.count()),
+            (2, 3, 0)
+        );
         assert_eq!(rt; paper.ring().count(), 3);
-        assert_eq!(rt; (paper.trader(1), paper.trader(2), paper.size()), (0, 0, 15));
+        assert_eq!(rt;
+            (paper.trader(1), paper.trader(2), paper.size()),
+            (0, 0, 15)
+        );
     }
 }

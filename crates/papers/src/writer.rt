@@ -39,6 +39,7 @@ impl<'a> Writer<'a> {
         ensures same_reference { self.new.out.ghost_name ≡ self.old.out.ghost_name }
         ensures out { self.new.out.now ≡ written self.old.at (bytes_of number) self.old.out.now }
         ensures at { self.new.at ≡ self.old.at + 2 }
+        ensures long { length self.new.out.now ≡ length self.old.out.now }
     {
         self.out[self.at..self.at + 2].copy_from_slice(&number.to_le_bytes());
         self.at += 2;
@@ -58,6 +59,7 @@ impl<'a> Writer<'a> {
     }
 
     // The traders of a ring.
+    #[tactic(auto, using(crate::proofs::Writes::ring_none, crate::proofs::Writes::ring_written))]
     pub(crate) fn ring(&mut self, ring: Ring)
         requires { self.old.at + 2 * length ring ≤ length self.old.out.now }
         ensures same_reference { self.new.out.ghost_name ≡ self.old.out.ghost_name }
@@ -70,6 +72,7 @@ impl<'a> Writer<'a> {
     }
 
     // The holder and the round of each of the first stands of a list.
+    #[tactic(auto, using(crate::proofs::Writes::gone_none, crate::proofs::Writes::gone_written, crate::proofs::Writes::first_taken, crate::proofs::Writes::none_taken))]
     pub(crate) fn gone(&mut self, sheet: &AcceptedSheet, list: &List, dearer: u8)
         requires few { dearer ≤ length list.now }
         requires room { self.old.at + 4 * dearer ≤ length self.old.out.now }

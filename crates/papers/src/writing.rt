@@ -58,6 +58,7 @@ pub fn write_paper(sheet: &AcceptedSheet, trader: u16, out: &mut [u8]) -> Result
 
 // Writes the paper of a trader by the lists of a year and a sheet for them: its length. What the checker of sheets refuses is
 // refused as there; a refusal leaves `out` as it was.
+#[tactic(auto, using(lists::proofs::Positions::count_of_lists))]
 pub fn paper(bytes: &[u8], sheet: &[u8], trader: u16, out: &mut [u8]) -> Result<usize, Refusal>
     ensures answer { result ≡ unless (paper_fault bytes.now sheet.now trader (length out.old)) (length (paper_of (lists_of bytes.now) sheet.now trader)) }
     ensures out { out.new ≡ left_by result (paper_of (lists_of bytes.now) sheet.now trader) out.old }

@@ -1,4 +1,4 @@
-use Rattle.std.proofs.Common.{sym, ap, ◌∙◌}
+use Rattle.std.proofs.Common.{ap, ◌∙◌}
 use Rattle.lists.proofs.Faults.{no_fault}
 use Rattle.lists.specs.Format.{unless}
 use Rattle.papers.proofs.Rings.{list_right}
