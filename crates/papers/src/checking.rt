@@ -6,8 +6,8 @@ ghost use Rattle.papers.specs.Faults.{count_fault, dearer_fault, end_fault, fiel
 
 use crate::list::{dearer_count, names};
 use crate::paper::Paper;
-use lists::reading::MOST_TRADERS;
 use lists::list::List;
+use lists::reading::MOST_TRADERS;
 use refusals::Refusal;
 
 impl<'a> Paper<'a> {
