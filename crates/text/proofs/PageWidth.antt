@@ -1,11 +1,10 @@
 -- How wide the lines of a page are.
-use Rattle.std.proofs.Common.{◌≡◌, ℕ, zero, suc, ◌+◌, ◌-◌, ◌*◌, ◌<◌, ◌≤◌, true, eqb, List, [], ◌++◌, length, get_or, None, codes, decimal, refl, ◌∙◌, inl, inr, arith}
+use Rattle.std.proofs.Common.{◌≡◌, ℕ, zero, suc, ◌+◌, ◌-◌, ◌*◌, ◌<◌, ◌≤◌, true, eqb, List, ◌++◌, length, get_or, None, codes, decimal, refl, ◌∙◌, inl, inr, arith}
 use Rattle.std.proofs.lemmas.Fmt.{length-decimal-le}
 use Rattle.std.proofs.lemmas.List.{get_or_default, get_or_past}
 use Rattle.std.proofs.lemmas.Bool.{cases_Bool, cases_lt, ltb-true}
-use Rattle.std.specs.Option.{option_or}
 use Rattle.theory.specs.Promise.{Distinct}
-use Rattle.lists.specs.Format.{end_fault, length_fault, list_bytes, list_fault, next_start, number_at, numbers, own_list_fault, stands_fault}
+use Rattle.lists.specs.Format.{end_fault, list_bytes, list_fault, next_start, number_at, numbers, own_list_fault}
 use Rattle.lists.proofs.Accepted.{all_distinct, good_list, good_numbers, no_fault_both}
 use Rattle.lists.proofs.Positions.{numbers_from}
 use Rattle.papers.specs.Faults.{fields_fault, owner, paper_check_fault}
@@ -128,11 +127,9 @@ module _ (most : ℕ) (paper : List ℕ) (wide : 72 ≤ most) (bytes : Bytes pap
 -- every stand of an accepted list can exist
 listed_exist : (list : List ℕ) (own : ℕ) → own_list_fault list own ≡ None → (j : ℕ) → j < length (numbers (list_bytes list 0)) →
     get_or (numbers (list_bytes list 0)) j 0 < 4000
-unfolding Distinct list_fault
+unfolding Distinct
 listed_exist list own e j h =
-    let first = no_fault_both (length_fault list 0) (option_or (stands_fault list 4000 own [] (get_or list 0 0) 1) (end_fault list (next_start list 0))) e in
-    let second = no_fault_both (stands_fault list 4000 own [] (get_or list 0 0) 1) (end_fault list (next_start list 0)) first.1 in
-    let good = good_list list 4000 own 0 (rw first.0 second.0) in
+    let good = good_list list 4000 own 0 (no_fault_both (list_fault list 4000 own 0) (end_fault list (next_start list 0)) e).0 in
     let same = good_numbers list 4000 own 0 good in
     let h' : j < length (numbers_from list (get_or list 0 0) 1) = rw same at h in
     let apart = all_distinct 4000 own (numbers_from list (get_or list 0 0) 1) good.may in

@@ -1,11 +1,11 @@
 // The readable page of a trader's paper.
 ghost use Rattle.std.specs.Prelude.{◌≡◌, ◌≤◌, ◌++◌, IfOk, string_bytes, OnOk};
 ghost use Rattle.text.specs.Page.{PagesAreNarrow, PagesOfAnyBytes, fits, gone_lines, gone_text, got_text, head_text, page_of, ring_text, step_column, step_text, width};
-ghost use Rattle.papers.specs.Paper.{count_on, own_on, ring_length};
+ghost use Rattle.papers.specs.Paper.{count_on};
 
 use crate::words::push_word;
 use itoa::Buffer;
-use lists::bytes::{byte_at, number_at};
+use papers::paper::Paper;
 use std::alloc::AllocError;
 
 // No line of a page is wider where its paper passes.
@@ -62,16 +62,16 @@ fn push_step(text: &mut String, column: usize, trader: u16) -> Result<usize, All
 }
 
 // Appends the ring: the own trader, the others, and the own trader again.
-#[tactic(auto, unfolding(crate::specs::Page::ring_text, crate::specs::Page::steps_text))]
-fn push_ring(text: &mut String, paper: &[u8], own: u16) -> Result<(), AllocError>
-    requires { own ≡ own_on paper.now }
+fn push_ring(text: &mut String, paper: &Paper) -> Result<(), AllocError>
     ensures { OnOk result (string_bytes text.new ≡ string_bytes text.old ++ ring_text paper.now) }
 {
-    let members = number_at(paper, 6);
+    let own = paper.own();
     push_word(text, "", own)?;
     let mut column = 6 + width(own);
-    for k in 1..members {
-        column = push_step(text, column, number_at(paper, 8 + 2 * k as usize))?;
+    let mut others = paper.ring();
+    let _own = others.next();
+    for member in others {
+        column = push_step(text, column, member)?;
     }
     push_step(text, column, own)?;
     text.push_str("\n")
@@ -88,15 +88,11 @@ fn push_gone(text: &mut String, holder: u16, round: u16) -> Result<(), AllocErro
 }
 
 // Appends a line for each dearer stand.
-#[tactic(auto, unfolding(crate::specs::Page::gone_lines))]
-fn push_lines(text: &mut String, paper: &[u8], members: u16) -> Result<(), AllocError>
-    requires { members ≡ ring_length paper.now }
+#[tactic(auto, using(crate::proofs::PageText::lines_more, crate::proofs::PageText::no_lines, crate::proofs::PageText::lines_are))]
+fn push_lines(text: &mut String, paper: &Paper) -> Result<(), AllocError>
     ensures { OnOk result (string_bytes text.new ≡ string_bytes text.old ++ gone_lines paper.now (count_on paper.now)) }
 {
-    let count_at = 8 + 2 * members as usize;
-    for j in 0..byte_at(paper, count_at) {
-        let holder = number_at(paper, count_at + 1 + 4 * j as usize);
-        let round = number_at(paper, count_at + 3 + 4 * j as usize);
+    for (holder, round) in paper.gone() {
         push_gone(text, holder, round)?;
     }
     Ok(())
@@ -107,10 +103,10 @@ fn push_lines(text: &mut String, paper: &[u8], members: u16) -> Result<(), Alloc
 pub fn push_page(text: &mut String, paper: &[u8]) -> Result<(), AllocError>
     ensures { OnOk result (string_bytes text.new ≡ string_bytes text.old ++ page_of paper.now) }
 {
-    let own = number_at(paper, 0);
-    push_head(text, own, number_at(paper, 2), number_at(paper, 4))?;
-    push_ring(text, paper, own)?;
-    push_lines(text, paper, number_at(paper, 6))
+    let paper = Paper::of(paper);
+    push_head(text, paper.own(), paper.round(), paper.stand())?;
+    push_ring(text, &paper)?;
+    push_lines(text, &paper)
 }
 
 // No line of the page of a paper that passes is wider than 72 columns.

@@ -1,9 +1,8 @@
-use Rattle.std.proofs.Common.{◌≡◌, ◌-◌, ◌≤◌, ◌++◌, string_bytes}
-use Rattle.text.specs.Page.{steps_text}
+use Rattle.std.proofs.Common.{◌≡◌, ◌≤◌, ◌++◌, string_bytes}
+use Rattle.text.proofs.PageText.{steps}
 use Rattle.text.proofs.pages.push_ring.Given as goal
 
-abbrev pub invariant-loop-k : goal.invariant-loop-k
-invariant-loop-k l =
+abbrev pub invariant-loop-member : goal.invariant-loop-member
+invariant-loop-member l =
     (l.column ≤ 72)
-    × (string_bytes l.text ++ steps_text l.paper l.column (l.members - l.k) l.k
-    ≡ string_bytes l.initial.text ++ steps_text l.paper l.initial.column (l.members - 1) 1)
+    × (string_bytes l.text ++ steps l.own l.column l.member-iterator ≡ string_bytes l.initial.text ++ steps l.own l.initial.column l.initial.member-iterator)
