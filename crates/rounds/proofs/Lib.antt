@@ -1,4 +1,3 @@
-pub mod Changes
 pub mod Pointed
 pub mod Stands
 pub mod Law

@@ -2,17 +2,16 @@
 use Rattle.std.proofs.Common.{◌≡◌, ℕ, suc, ◌+◌, ◌-◌, ◌*◌, ◌<◌, ◌≤◌, true, false, cond, not, ◌&&◌, eqb, ltb, List, [], ◌∷◌, ◌++◌, length, get_or, take, drop, replicate, sym, refl, ap, ◌∙◌, inl, inr, add-one, arith}
 use Rattle.std.specs.List.{list_any}
 use Rattle.std.proofs.lemmas.Bool.{cases_Bool, cond-true, cond-false, both_ways, lt-ltb}
-use Rattle.std.proofs.lemmas.List.{append-nil, drop_all, drop_at, take_at, ext_get_or, get_or-replicate, length-append, length-drop, length-replicate, length-take-le}
+use Rattle.std.proofs.lemmas.List.{append-nil, drop_all, drop_at, take_at, ext_get_or, length-append, length-drop, length-replicate, length-take-le}
 use Rattle.std.proofs.lemmas.List.FromFn.{fill_by_all, length-map-range_with_len}
 use Rattle.theory.specs.Trade.{Lists, is_in, points, on_ring, rounds, all_in, result, out, none_in, count_from, round_count}
 use Rattle.theory.proofs.Walks.{none_in_all, ring_in}
-use Rattle.theory.proofs.Exchange.{rounds_start, rounds_inside_length, rounds_inside_next, rounds_inside_bits, all_in_in, ring_out, ring_got, count_start, count_more, count_end, some_in_bound}
+use Rattle.theory.proofs.Exchange.{rounds_start, rounds_inside_length, rounds_inside_next, all_in_in, ring_out, ring_got, count_start, count_more, count_end, some_in_bound}
 use Rattle.pointing.proofs.Places.{exchange_points}
 use Rattle.rings.specs.Ring.{ring_flags, with_flags}
 use Rattle.rings.proofs.Law.{flag_law}
 use Rattle.rounds.specs.Run.{results_of, outs_of}
 use Rattle.rounds.specs.Turn.{all_pointed}
-use Rattle.rounds.proofs.Changes.{Changed}
 use Rattle.rounds.proofs.Pointed.{all_at, all_length}
 
 pub some_in_any : (inside : List ℕ) → list_any (λ x. eqb x 1) inside ≡ not (none_in inside)
@@ -54,6 +53,10 @@ stands_start ls n results work outs front n_is results_size work_size outs_size 
     }
 
 -- ---- one round
+
+-- where one of the first i flags says ring, the entry is v, and all others are as they were
+pub record Changed (flags : List ℕ) (v : ℕ) (was now : List ℕ) (i : ℕ) : Type 0 where
+  pub each : (j : ℕ) → get_or now j 0 ≡ cond (ltb j i && eqb (get_or flags j 0) 1) v (get_or was j 0)
 
 -- somebody is in only in fewer rounds than there are traders
 pub stands_bound : (ls : Lists) (n k : ℕ) (results work outs : List ℕ) → Stands ls n k results work outs → none_in (take n work) ≡ false → k < length ls
@@ -160,13 +163,3 @@ module _ (ls : Lists) (n k : ℕ) (results work outs : List ℕ) (S : Stands ls 
   pub outs_at_end : outs ≡ outs_of ls
   unfolding outs_of
   outs_at_end = rw (← S.size) (fill_by_all (out ls) outs n 0 S.outs_size (λ j h. S.went j h (none_in_all (rounds ls k) nobody_in j)))
-
-  pub inside_at_end : take n work ≡ replicate n 0
-  unfolding is_in
-  inside_at_end =
-      let size = ap length S.inside ∙ rounds_inside_length ls k ∙ sym S.size in
-      ext_get_or 0 (take n work) (replicate {A = ℕ} n 0) (size ∙ sym (length-replicate {A = ℕ} n 0))
-      (λ j h.
-      let e = none_in_all (rounds ls k) nobody_in j in
-      let zero = get_or-replicate {A = ℕ} n j 0 0 (omega arith) in
-      rw (S.inside, zero) (elim (rounds_inside_bits ls k j) [ inl z ↦ z | inr o ↦ absurd (both_ways (eqb (get_or (rounds ls k).inside j 0) 1) e (rw o)) ]))

@@ -1,6 +1,5 @@
 use Rattle.std.proofs.Common.{◌-◌, length}
-use Rattle.rounds.proofs.Changes.{Changed}
-use Rattle.rounds.proofs.Stands.{Stands}
+use Rattle.rounds.proofs.Stands.{Changed, Stands}
 use Rattle.rounds.proofs.running.all_rounds.Given as goal
 
 abbrev pub invariant-traders : goal.invariant-traders
