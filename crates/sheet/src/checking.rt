@@ -112,6 +112,7 @@ fn check_traders(year: &Year, sheet: &[u8]) -> Result<(), Refusal>
 
 impl<'a> AcceptedSheet<'a> {
     // Checks a sheet against the lists of a year, or finds the first fault.
+    #[tactic(auto, using(crate::proofs::Checked::accepted_sheet))]
     pub fn check(year: &'a Year<'a>, sheet: &'a [u8]) -> Result<AcceptedSheet<'a>, Refusal>
         ensures { result ≡ unless (sheet_fault year.now sheet.now) (record { lists = year.now; bytes = sheet.now }) }
     {
@@ -128,7 +129,14 @@ pub fn check(bytes: &[u8], sheet: &[u8]) -> Result<u16, Refusal>
     ensures says { Checked bytes.now sheet.now result }
 {
     let year = Year::read(bytes)?;
-    Ok(AcceptedSheet::check(&year, sheet)?.traders())
+    check_for(&year, sheet)
+}
+
+// Checks a sheet against the lists of a year that was read: the number of traders, or the first fault.
+fn check_for(year: &Year, sheet: &[u8]) -> Result<u16, Refusal>
+    ensures { result ≡ unless (sheet_fault year.now sheet.now) (length year.now) }
+{
+    Ok(AcceptedSheet::check(year, sheet)?.traders())
 }
 
 // A sheet is accepted exactly if it is valid.
