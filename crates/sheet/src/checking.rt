@@ -68,6 +68,7 @@ fn check_holder(sheet: &[u8], trader: u16) -> Result<(), Refusal>
 }
 
 // The holders of the stands of a trader's list went out before the trader, up to the stand that it got.
+#[tactic(auto, using(std::proofs::lemmas::List::nil_from_length), unfolding(crate::specs::Sheet::dearer_fault))]
 fn check_dearer(sheet: &[u8], list: &List, trader: u16) -> Result<(), Refusal>
     ensures { result ≡ unless (dearer_fault sheet.now trader list.now 0) tt }
 {
@@ -98,6 +99,7 @@ fn check_entry(
 }
 
 // The entries of all traders, one after the other.
+#[tactic(auto, using(std::proofs::lemmas::List::nil_from_length), unfolding(crate::proofs::Traders::left_fault))]
 fn check_traders(year: &Year, sheet: &[u8]) -> Result<(), Refusal>
     ensures { result ≡ unless (traders_fault year.now sheet.now 0 (length year.now)) tt }
 {
