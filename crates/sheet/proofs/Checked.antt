@@ -217,8 +217,11 @@ module _ (bs sheet : List ℕ) (n : ℕ) (accepted : fault bs ≡ None) (count :
   all_right sized e = rw (length_right sized, e) (ap Ok count)
 
 -- a sheet that is accepted
-pub accepted_sheet : (ls : Lists) (sheet : List ℕ) → length_fault (length ls) sheet ≡ None → traders_fault ls sheet 0 (length ls) ≡ None → IsAccepted ls sheet
-accepted_sheet ls sheet size fine =
-    let right : sheet_fault ls sheet ≡ None = rw (size, fine) in
+pub accepted_sheet : (ls : Lists) (sheet : List ℕ) (n : ℕ) (u v : Unit {0}) → n ≡ length ls → ◌≡◌ {A = Result (Unit {0}) Refusal} (Ok u) (unless (length_fault n sheet) tt) →
+    ◌≡◌ {A = Result (Unit {0}) Refusal} (Ok v) (unless (traders_fault ls sheet 0 (length ls)) tt) → IsAccepted ls sheet
+accepted_sheet ls sheet n u v count sized fine =
+    let size : length_fault (length ls) sheet ≡ None = rw count at (no_fault (length_fault n sheet) tt u sized).0 in
+    let all = (no_fault (traders_fault ls sheet 0 (length ls)) tt v fine).0 in
+    let right : sheet_fault ls sheet ≡ None = rw (size, all) in
     let valid = accepted_valid ls sheet right in
     record { right = right; size = valid.0; exists = valid.1.exists }

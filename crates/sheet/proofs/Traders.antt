@@ -1,43 +1,54 @@
 -- How the first fault of all traders is found a trader at a time.
-use Rattle.std.proofs.Common.{◌≡◌, ℕ, zero, suc, ◌+◌, ◌<◌, ◌≤◌, Bool, true, false, List, [], ◌∷◌, length, get_or, set, drop, replicate, Some, None, Option, sym, refl, ◌∙◌, inl, inr, add-one, arith}
-use Rattle.std.proofs.lemmas.Bool.{cases_eq, eq-eqb, ne_eqb}
+use Rattle.std.proofs.Common.{◌≡◌, ℕ, zero, suc, ◌+◌, ◌<◌, ◌≤◌, Bool, true, false, List, [], ◌∷◌, length, get_or, set, drop, replicate, Some, None, Option, sym, refl, ap, ◌∙◌, inl, inr, add-one, arith}
+use Rattle.std.proofs.lemmas.Bool.{and_parts, cases_eq, eq-eqb, ltb-true, ne_eqb}
 use Rattle.std.proofs.lemmas.List.{get_or-set_other, get_or-set_same}
+use Rattle.std.specs.Option.{option_or}
 use Rattle.refusals.specs.declared.Refusal.{Refusal}
 use Rattle.theory.specs.Trade.{Lists}
 use Rattle.lists.specs.Format.{Begins, list_bytes}
-use Rattle.lists.proofs.Accepted.{begins_within, short_list}
+use Rattle.lists.proofs.Accepted.{begins_within, no_fault_both, short_list}
 use Rattle.lists.proofs.Positions.{length_of_part}
-use Rattle.sheet.specs.Sheet.{stand_in, got_before, entry_fault, trader_fault, traders_fault}
-use Rattle.sheet.proofs.Checked.{fine_trader}
-use Rattle.sheet.proofs.Rest.{rest_here}
+use Rattle.sheet.specs.Sheet.{stand_in, got_before, dearer_fault, holder_fault, taken_fault, entry_fault, trader_fault, traders_fault}
+use Rattle.sheet.proofs.Checked.{no_fault_test}
+use Rattle.sheet.proofs.Rest.{rest_here, rest_next}
 
--- one trader, and the end
-module _ (ls : Lists) (sheet : List ℕ) (i left : ℕ) (whole : Option Refusal) (so_far : traders_fault ls sheet i left ≡ whole) where
-  pub traders_wrong : (f : Refusal) → 0 < left → trader_fault ls sheet i ≡ Some f → whole ≡ Some f
-  unfolding traders_fault
-  traders_wrong f more e = sym so_far ∙ wrong_step left more
-    where
-      wrong_step : (k : ℕ) → 0 < k → traders_fault ls sheet i k ≡ Some f
-      wrong_step zero h = absurd (omega arith)
-      wrong_step (suc k) h = rw e
+-- the first fault of the traders whose lists are left, of n traders; the first of them is trader i
+unfoldable pub left_fault : ℕ → List ℕ → ℕ → Lists → Option Refusal
+left_fault n sheet i [] = None
+left_fault n sheet i (l ∷ ls) = option_or (entry_fault sheet n i l (got_before sheet i (stand_in sheet i))) (left_fault n sheet (i + 1) ls)
 
-  pub traders_next : (rest : ℕ) → left ≡ rest + 1 → trader_fault ls sheet i ≡ None → traders_fault ls sheet (i + 1) rest ≡ whole
-  unfolding traders_fault
-  traders_next rest one e =
-      let l : left ≡ suc rest = omega arith in
-      let whole_is : traders_fault ls sheet i (suc rest) ≡ whole = rw l at so_far in
-      rw (add-one i) (sym (rw e) ∙ whole_is)
+left_is : (ls : Lists) (sheet : List ℕ) (i : ℕ) (rest : Lists) → rest ≡ drop i ls → traders_fault ls sheet i (length rest) ≡ left_fault (length ls) sheet i rest
+unfolding left_fault trader_fault traders_fault
+left_is ls sheet i [] left = refl
+left_is ls sheet i (l ∷ others) left =
+    let here = rest_here ls (l ∷ others) others i l left refl [] in
+    let next = left_is ls sheet (i + 1) others (rest_next ls (l ∷ others) others i l left refl) in
+    rw (here, ← next, add-one i) refl
 
-  pub traders_done : left ≡ 0 → whole ≡ None
-  unfolding traders_fault
-  traders_done h = sym so_far ∙ rw h
+pub all_left : (ls : Lists) (sheet : List ℕ) → traders_fault ls sheet 0 (length ls) ≡ left_fault (length ls) sheet 0 ls
+all_left ls sheet = left_is ls sheet 0 ls refl
 
--- a trader without a fault has got a stand that exists
-pub stand_below : (ls : Lists) (sheet : List ℕ) (i : ℕ) → trader_fault ls sheet i ≡ None → stand_in sheet i < length ls
-stand_below ls sheet i e = (fine_trader ls sheet i e).exists
+-- the first of them has the list l; `again` tells whether a trader before got its stand
+module _ (n : ℕ) (sheet : List ℕ) (i : ℕ) (rest others : Lists) (l : List ℕ) (again : Bool) (whole : Option Refusal)
+    (so_far : left_fault n sheet i rest ≡ whole) (more : rest ≡ l ∷ others) (marked : again ≡ got_before sheet i (stand_in sheet i)) where
+  left_step : whole ≡ option_or (entry_fault sheet n i l again) (left_fault n sheet (i + 1) others)
+  unfolding left_fault
+  left_step = sym so_far ∙ rw (more, ← marked) refl
+
+  pub left_wrong : (f : Refusal) → entry_fault sheet n i l again ≡ Some f → whole ≡ Some f
+  left_wrong f e = left_step ∙ ap (λ o. option_or o (left_fault n sheet (i + 1) others)) e
+
+  pub left_next : entry_fault sheet n i l again ≡ None → left_fault n sheet (i + 1) others ≡ whole
+  left_next e = sym (left_step ∙ ap (λ o. option_or o (left_fault n sheet (i + 1) others)) e)
+
+-- an entry without a fault has a stand that exists
+pub entry_below : (sheet : List ℕ) (n i : ℕ) (ts : List ℕ) (again : Bool) → entry_fault sheet n i ts again ≡ None → stand_in sheet i < n
+entry_below sheet n i ts again e =
+    let p = no_fault_both (taken_fault sheet n i again) (option_or (dearer_fault sheet i ts 0) (holder_fault sheet i)) e in
+    ltb-true _ _ (and_parts _ _ (no_fault_test _ _ p.0)).0
 
 -- the marks of the stands got before: none, and one more
-pub no_marks : (n t : ℕ) → get_or (replicate n false) t false ≡ false
+no_marks : (n t : ℕ) → get_or (replicate n false) t false ≡ false
 no_marks zero t = refl
 no_marks (suc n) zero = refl
 no_marks (suc n) (suc t) = no_marks n t
@@ -55,12 +66,6 @@ taken_more sheet taken i got is h m t =
       | inl e ↦ rw (add-one i, ← is, e, eq-eqb got got refl) (get_or-set_same taken got true false h)
       | inr ne ↦ rw (add-one i, ← is, ne_eqb got t (λ e. ne (sym e))) (get_or-set_other taken got t true false ne ∙ m t)
     ]
-
--- what is checked of trader i, whose list is the first of those that are left
-pub trader_is : (ls rest others : Lists) (i : ℕ) (l : List ℕ) → rest ≡ drop i ls → rest ≡ l ∷ others → (sheet : List ℕ) (n : ℕ) (again : Bool) →
-    n ≡ length ls → again ≡ got_before sheet i (stand_in sheet i) → entry_fault sheet n i l again ≡ trader_fault ls sheet i
-unfolding trader_fault
-trader_is ls rest others i l left more sheet n again count before = rw (count, before, rest_here ls rest others i l left more [])
 
 -- the list of trader i, which begins at byte `at` of accepted bytes, has at most 40 stands
 pub few_stands : (bs : List ℕ) (i at : ℕ) → Begins bs i at → length (list_bytes bs at) ≤ 80

@@ -69,6 +69,7 @@ fn check_holder(sheet: &[u8], trader: u16) -> Result<(), Refusal>
 }
 
 // The holders of the stands of a trader's list went out before the trader, up to the stand that it got.
+#[tactic(auto, using(std::proofs::lemmas::List::nil_from_length), unfolding(crate::specs::Sheet::dearer_fault))]
 fn check_dearer(sheet: &[u8], list: &List, trader: u16) -> Result<(), Refusal>
     ensures { result ≡ unless (dearer_fault sheet.now trader list.now 0) tt }
 {
@@ -99,6 +100,7 @@ fn check_entry(
 }
 
 // The entries of all traders, one after the other.
+#[tactic(auto, using(std::proofs::lemmas::List::nil_from_length), unfolding(crate::proofs::Traders::left_fault))]
 fn check_traders(year: &Year, sheet: &[u8]) -> Result<(), Refusal>
     ensures { result ≡ unless (traders_fault year.now sheet.now 0 (length year.now)) tt }
 {
@@ -113,6 +115,7 @@ fn check_traders(year: &Year, sheet: &[u8]) -> Result<(), Refusal>
 
 impl<'a> AcceptedSheet<'a> {
     // Checks a sheet against the lists of a year, or finds the first fault.
+    #[tactic(auto, using(crate::proofs::Checked::accepted_sheet))]
     pub fn check(year: &'a Year<'a>, sheet: &'a [u8]) -> Result<AcceptedSheet<'a>, Refusal>
         ensures { result ≡ unless (sheet_fault year.now sheet.now) (record { lists = year.now; bytes = sheet.now }) }
     {
@@ -129,7 +132,14 @@ pub fn check(bytes: &[u8], sheet: &[u8]) -> Result<u16, Refusal>
     ensures says { Checked bytes.now sheet.now result }
 {
     let year = Year::read(bytes)?;
-    Ok(AcceptedSheet::check(&year, sheet)?.traders())
+    check_for(&year, sheet)
+}
+
+// Checks a sheet against the lists of a year that was read: the number of traders, or the first fault.
+fn check_for(year: &Year, sheet: &[u8]) -> Result<u16, Refusal>
+    ensures { result ≡ unless (sheet_fault year.now sheet.now) (length year.now) }
+{
+    Ok(AcceptedSheet::check(year, sheet)?.traders())
 }
 
 // A sheet is accepted exactly if it is valid.
