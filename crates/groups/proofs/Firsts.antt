@@ -1,23 +1,12 @@
 -- The share that a search hands on is the first one: of those that go by the choices so far, and in the end of all.
-use Rattle.std.proofs.Common.{◌≡◌, ℕ, ◌+◌, ◌<◌, ◌≤◌, Bool, length, set, refl, ◌∙◌, inl, inr, arith}
+use Rattle.std.proofs.Common.{◌≡◌, ℕ, ◌+◌, ◌<◌, ◌≤◌, Bool, length, set, ◌∙◌, inl, inr, arith}
 use Rattle.std.specs.Prelude.{Option}
 use Rattle.std.proofs.lemmas.Bool.{cases_lt}
 use Rattle.groups.specs.declared.Search.{Search}
 use Rattle.groups.specs.Groups.{Before, Choices, choice_of, in_group, stand_of}
-use Rattle.groups.specs.Sharings.{Agrees, Brought, Differs, Found, Sound, choice_in, size}
-use Rattle.groups.proofs.Orders.{earlier_turn, next_same_or_earlier, not_earlier, same_turn}
-use Rattle.groups.proofs.Prefixes.{HopelessUntil, agrees_next, new_is, old_is, serves, turn_of}
-
--- all traders have their choice
-pub found_end : (given : Search) (chosen : Choices) → Sound given chosen (size given) → Brought given chosen → Differs given chosen →
-    Found given chosen (size given) chosen
-found_end given chosen sound brought differs =
-    record {
-      serves = serves given chosen sound brought differs;
-      none_before = λ group other agrees s b. not_earlier group other (in_group chosen) (stand_of chosen) b.first (agrees b.first b.within) b.earlier;
-      kept = λ j h. refl;
-      past = λ j h. refl;
-    }
+use Rattle.groups.specs.Sharings.{Agrees, Found, choice_in, size}
+use Rattle.groups.proofs.Orders.{earlier_turn, next_same_or_earlier, same_turn}
+use Rattle.groups.proofs.Prefixes.{HopelessUntil, agrees_next, new_is, old_is, turn_of}
 
 -- the turn in which a choice is tried
 turn_is : (chosen : Choices) (i t : ℕ) → choice_of chosen i ≡ choice_in t → turn_of (in_group chosen) (stand_of chosen) i ≡ t
