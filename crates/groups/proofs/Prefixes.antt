@@ -1,5 +1,5 @@
 -- How the choices for the first traders go on with one more, and why a way that is cut off could not serve.
-use Rattle.std.proofs.Common.{◌≡◌, ℕ, ◌+◌, ◌<◌, Bool, true, cond, ◌⊎◌, length, set, sym, ◌∙◌, inl, inr, arith, below_more}
+use Rattle.std.proofs.Common.{◌≡◌, ℕ, ◌+◌, ◌<◌, Bool, true, cond, ◌⊎◌, length, set, inl, inr, arith, below_more}
 use Rattle.std.specs.Prelude.{Option, Some, None}
 use Rattle.std.proofs.lemmas.List.{get_or-set_same, get_or-set_other}
 use Rattle.std.proofs.lemmas.Bool.{cases_eq, cases_Bool}
@@ -26,10 +26,10 @@ turn_of group share i = cond (group i) (share i + 1) 0
 pub agrees_next : (chosen : Choices) (i : ℕ) → i < length chosen → (group : ℕ → Bool) (share : ℕ → ℕ) → Agrees chosen i group share →
     Agrees (set chosen i (choice_in (turn_of group share i))) (i + 1) group share
 agrees_next chosen i room group share agrees j h =
-    elim (split chosen i (choice_in (turn_of group share i)) j h) [
-      | inl e ↦ let new = new_is chosen i (choice_in (turn_of group share i)) room in grind arith
-      | inr lt ↦ let old = old_is chosen i (choice_in (turn_of group share i)) j (omega arith) in let so_far = agrees j lt in grind arith
-    ]
+    let new = new_is chosen i (choice_in (turn_of group share i)) room in
+    let old = old_is chosen i (choice_in (turn_of group share i)) j in
+    let so_far = agrees j in
+    grind arith
 
 -- a stand that is less dear, or that another has, cannot serve
 pub not_had : (given : Search) (chosen : Choices) (i : ℕ) → i < length chosen → i < size given → (x : Option ℕ) → MayNotHave given chosen i x →
@@ -42,12 +42,10 @@ not_had given chosen i room more (Some t) refused group share agrees s =
     let is : share i ≡ t = grind arith in
     let taken = refused (rw is at (s.fine i more in_it)) in
     let j = taken.0 in
-    let old = old_is chosen i (Some t) j (omega arith) in
+    let old = old_is chosen i (Some t) j in
     let there = agrees j (omega arith) in
-    let in_j : group j ≡ true = grind arith in
-    let is_j : share j ≡ t = grind arith in
-    let same = s.apart j i (omega arith) more in_j in_it (is_j ∙ sym is) in
-    omega arith
+    let same = s.apart j i (omega arith) more in
+    grind arith
 
 -- no turn of trader i before this one serves
 abbrev pub HopelessUntil : Search → Choices → ℕ → ℕ → Type 0
