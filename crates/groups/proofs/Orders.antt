@@ -9,17 +9,10 @@ use Rattle.groups.specs.Groups.{AnswerDetermined, Before, Choices, EarlierAt, Fi
 use Rattle.groups.specs.Sharings.{Agrees}
 use Rattle.groups.proofs.Prefixes.{turn_of}
 
--- what two shares have the same for a trader is tried in the same turn, and what is earlier in an earlier turn
-module _ (group : ℕ → Bool) (share : ℕ → ℕ) (group' : ℕ → Bool) (share' : ℕ → ℕ) (j : ℕ) where
-  pub same_turn : SameAt group share group' share' j → turn_of group share j ≡ turn_of group' share' j
-  same_turn same = grind arith
-
-  pub earlier_turn : EarlierAt group share group' share' j → turn_of group share j < turn_of group' share' j
-  earlier_turn earlier = grind arith
-
-  -- where two shares have the same, neither is earlier
-  pub not_earlier : SameAt group share group' share' j → EarlierAt group share group' share' j → ⊥
-  not_earlier same earlier = grind arith
+-- what is the same or earlier for a trader is tried in no later turn
+pub no_later_turn : (group : ℕ → Bool) (share : ℕ → ℕ) (group' : ℕ → Bool) (share' : ℕ → ℕ) (j : ℕ) →
+    SameAt group share group' share' j ⊎ EarlierAt group share group' share' j → turn_of group share j ≤ turn_of group' share' j
+no_later_turn group share group' share' j way = grind arith
 
 -- a share that comes before another, and has the same for the first i traders, has the same for trader i or is earlier by it
 pub next_same_or_earlier : (n i : ℕ) (group : ℕ → Bool) (other : ℕ → ℕ) (share : Choices) →
@@ -30,7 +23,7 @@ next_same_or_earlier n i group other share agrees b =
       | inl e ↦ inr (rw e at b.earlier)
       | inr ne ↦ elim (cases_lt i b.first) [
         | inl lt ↦ inl (b.same i lt)
-        | inr ge ↦ absurd (not_earlier group other (in_group share) (stand_of share) b.first (agrees b.first (omega arith)) b.earlier)
+        | inr ge ↦ let same = agrees b.first (omega arith) in let earlier = b.earlier in absurd (grind arith)
       ]
     ]
 

@@ -2,7 +2,7 @@
 use Rattle.std.proofs.Common.{◌≡◌, ℕ, ◌+◌, ◌<◌, Bool, true, cond, ◌⊎◌, length, set, inl, inr, arith, below_more}
 use Rattle.std.specs.Prelude.{Option, Some, None}
 use Rattle.std.proofs.lemmas.List.{get_or-set_same, get_or-set_other}
-use Rattle.std.proofs.lemmas.Bool.{cases_eq, cases_Bool}
+use Rattle.std.proofs.lemmas.Bool.{cases_eq}
 use Rattle.groups.specs.declared.Search.{Search}
 use Rattle.groups.specs.Groups.{Choices, choice_of}
 use Rattle.groups.specs.Sharings.{size, choice_in, MayNotHave, Agrees, Hopeless}
@@ -38,13 +38,11 @@ not_had given chosen i room more None refused group share agrees s = refused
 not_had given chosen i room more (Some t) refused group share agrees s =
     let new = new_is chosen i (Some t) room in
     let here = agrees i (omega arith) in
-    let in_it : group i ≡ true = grind arith in
-    let is : share i ≡ t = grind arith in
-    let taken = refused (rw is at (s.fine i more in_it)) in
-    let j = taken.0 in
-    let old = old_is chosen i (Some t) j in
-    let there = agrees j (omega arith) in
-    let same = s.apart j i (omega arith) more in
+    let is : (group i ≡ true) × (share i ≡ t) = grind arith in
+    let taken = refused (rw is.1 at (s.fine i more is.0)) in
+    let old = old_is chosen i (Some t) taken.0 in
+    let there = agrees taken.0 (omega arith) in
+    let same = s.apart taken.0 i (omega arith) more in
     grind arith
 
 -- no turn of trader i before this one serves
@@ -63,8 +61,4 @@ all_tried given chosen i room more all group share agrees s =
     all (turn_of group share i) turn group share (agrees_next chosen i room group share agrees) s
   where
     turn : turn_of group share i < size given + 1
-    turn =
-        elim (cases_Bool (group i)) [
-          | inl in_it ↦ let below = (s.among i more in_it).0 in rw in_it (omega arith)
-          | inr stays ↦ rw stays (omega arith)
-        ]
+    turn = let below = s.among i more in grind arith
