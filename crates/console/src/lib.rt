@@ -1,17 +1,15 @@
-// What the programs share: bounded input, how a refusal is told, and how a program ends that did not do its work.
+// What the programs share: bounded input, and how a program ends that did not do its work.
 #![tactic(auto)]
 
-ghost use Rattle.std.specs.Prelude.{◌≡◌, ◌≤◌, IfOk, vec_len, string_bytes};
-ghost use Rattle.console.specs.Text.{refusal_text};
-ghost use Rattle.refusals.specs.Refusals.{number, place};
+ghost use Rattle.std.specs.Prelude.{◌≤◌, IfOk, IsErr, vec_len};
 
-use refusals::Refusal;
-use std::alloc::{AllocError, Global};
+use lists::reading::MOST_BYTES;
+use std::alloc::AllocError;
 use std::io::Read;
-use std::{fs, io};
+use std::{fmt, fs, io};
 
-// The longest lists that can be accepted have 2 + 4000 * (1 + 2 * 40) bytes; one byte more tells a file that is too long.
-pub const MOST_LISTS: u64 = 324_003;
+// The longest lists that can be accepted; one byte more tells a file that is too long.
+pub const MOST_LISTS: u64 = MOST_BYTES as u64 + 1;
 
 // Why a program ends with status 1; what there is to say has been printed.
 #[derive(Clone, Copy, Debug)]
@@ -46,15 +44,18 @@ pub fn read_input(rt: &HostRuntime, name: &str, most: u64) -> io::Result<Vec<u8>
     Ok(bytes)
 }
 
-// How a refusal is told: its number and its place.
-pub fn refusal_line(heap: Global, refusal: Refusal) -> Result<String, AllocError>
-    ensures { IfOk result (λ text. string_bytes text ≡ refusal_text (number refusal) (place refusal)) }
+// Tells why a program's work was refused, on standard output.
+pub fn refused<T>(rt: &HostRuntime, why: &impl fmt::Display) -> Result<T, Ended>
+    ensures { IsErr result }
 {
-    told(heap, refusal.number(), refusal.place())
+    println!(rt; "{why}")?;
+    Err(Ended::Refused)
 }
 
-fn told(heap: Global, which: u8, at: usize) -> Result<String, AllocError>
-    ensures { IfOk result (λ text. string_bytes text ≡ refusal_text which at) }
+// Tells why a program cannot read or write a file, on standard error.
+pub fn failed<T>(rt: &HostRuntime, program: &str, name: &str, e: io::Error) -> Result<T, Ended>
+    ensures { IsErr result }
 {
-    format!(in heap; "refused {which} at {at}")
+    eprintln!(rt; "{program}: {name}: {e}")?;
+    Err(Ended::Failed)
 }

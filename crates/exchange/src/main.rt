@@ -7,14 +7,15 @@ mod output;
 ghost use Rattle.text.specs.Report.{report_of};
 ghost use Rattle.std.specs.Prelude.{◌≡◌, IfOk, string_bytes};
 
-use console::{Ended, MOST_LISTS, read_input, refusal_line};
+use console::{Ended, MOST_LISTS, failed, read_input, refused};
 use lists::reading::MOST_TRADERS;
+use lists::year::Year;
 use options::{Options, read_options};
-use output::{tell_failure, write_whole};
-use papers::splitting::first_size;
-use papers::writing::{MOST_PAPER, paper};
-use refusals::Refusal;
+use output::write_whole;
+use papers::splitting::Papers;
+use papers::writing::{MOST_PAPER, write_paper};
 use rounds::running::Exchanged;
+use sheet::accepted::AcceptedSheet;
 use sheet::exchanging::exchange;
 use std::alloc::{AllocError, Global};
 use text::pages::push_page;
@@ -22,7 +23,7 @@ use text::report::push_report;
 
 // The bytes of a year, and what the exchange has left in its slices, cut to the number of traders.
 #[derive(Drop)]
-struct Year {
+struct Done {
     bytes: Vec<u8>,
     exchanged: Exchanged,
     results: Vec<u16>,
@@ -30,17 +31,17 @@ struct Year {
 }
 
 // Does the exchange, or tells the refusal; the lent slices have room for as many traders as there can be.
-fn exchange_year(rt: &HostRuntime, bytes: Vec<u8>) -> Result<Year, Ended> {
+fn exchange_year(rt: &HostRuntime, bytes: Vec<u8>) -> Result<Done, Ended> {
     let most = MOST_TRADERS as usize;
     let mut results = vec![in rt.alloc(); 0u16; most]?;
     let mut sheet = vec![in rt.alloc(); 0u8; 4 * most]?;
     let mut work = vec![in rt.alloc(); 0u16; 3 * most]?;
-    let exchanged = exchange(&bytes, &mut results, &mut sheet, &mut work).or_else(
-        |refusal| tell_refusal(rt, refusal),
-    )?;
+    let exchanged = exchange(&bytes, &mut results, &mut sheet, &mut work).or_else(|refusal| refused(
+        rt, &refusal,
+    ))?;
     results.truncate(exchanged.traders as usize);
     sheet.truncate(4 * exchanged.traders as usize);
-    Ok(Year {
+    Ok(Done {
         bytes,
         exchanged,
         results,
@@ -48,31 +49,29 @@ fn exchange_year(rt: &HostRuntime, bytes: Vec<u8>) -> Result<Year, Ended> {
     })
 }
 
-fn tell_refusal<T>(rt: &HostRuntime, refusal: Refusal) -> Result<T, Ended> {
-    let line = refusal_line(rt.alloc(), refusal)?;
-    println!(rt; "{line}")?;
-    Err(Ended::Refused)
-}
-
 // The whole report, so that it is written at once.
-fn report(heap: Global, year: &Year) -> Result<String, AllocError>
-    ensures { IfOk result (λ text. string_bytes text ≡ report_of year.now.exchanged.rounds year.now.results.items) }
+fn report(heap: Global, done: &Done) -> Result<String, AllocError>
+    ensures { IfOk result (λ text. string_bytes text ≡ report_of done.now.exchanged.rounds done.now.results.items) }
 {
     let mut text = String::new(heap);
-    push_report(&mut text, year.exchanged.rounds, &year.results)?;
+    push_report(&mut text, done.exchanged.rounds, &done.results)?;
     Ok(text)
 }
 
 // The papers of all traders, one after another, in the order of their numbers.
-fn all_papers(heap: Global, year: &Year) -> Result<Vec<u8>, AllocError> {
-    let mut out = vec![in heap; 0u8; MOST_PAPER]?;
+fn all_papers(heap: Global, done: &Done) -> Result<Vec<u8>, AllocError> {
     let mut papers = Vec::new(heap);
-    for trader in 0..year.exchanged.traders {
-        // the exchange's own sheet is never refused, and there is room for the longest paper
-        if let Ok(size) = paper(&year.bytes, &year.sheet, trader, &mut out)
-            && let Some(part) = out.get(..size)
-        {
-            papers.extend_from_slice(part)?;
+    let mut out = vec![in heap; 0u8; MOST_PAPER]?;
+    // the exchange's own lists and sheet are never refused, and there is room for the longest paper
+    if let Ok(year) = Year::read(&done.bytes)
+        && let Ok(sheet) = AcceptedSheet::check(&year, &done.sheet)
+    {
+        for trader in 0..year.traders() {
+            if let Ok(size) = write_paper(&sheet, trader, &mut out)
+                && let Some(paper) = out.get(..size)
+            {
+                papers.extend_from_slice(paper)?;
+            }
         }
     }
     Ok(papers)
@@ -81,35 +80,30 @@ fn all_papers(heap: Global, year: &Year) -> Result<Vec<u8>, AllocError> {
 // A printed page for each of n papers that stand one after another, with a form feed between pages.
 fn all_pages(heap: Global, papers: &[u8], n: u16) -> Result<String, AllocError> {
     let mut text = String::new(heap);
-    let mut from = 0usize;
+    let mut papers = Papers::of(papers);
     for trader in 0..n {
-        let Some(rest) = papers.get(from..papers.len()) else {
-            break;
-        };
-        let size = first_size(rest).min(rest.len());
         if trader > 0 {
             text.push('\u{c}')?;
         }
-        push_page(&mut text, &rest[0..size])?;
-        from = from.saturating_add(size);
+        push_page(&mut text, papers.next_paper())?;
     }
     Ok(text)
 }
 
 // Writes the files that were asked for.
-fn write_files(rt: &HostRuntime, options: &Options, year: &Year) -> Result<(), Ended> {
+fn write_files(rt: &HostRuntime, options: &Options, done: &Done) -> Result<(), Ended> {
     if let Some(name) = &options.sheet {
-        write_whole(rt, name, &year.sheet)?;
+        write_whole(rt, name, &done.sheet)?;
     }
     if options.paper_bytes.is_none() && options.pages.is_none() {
         return Ok(());
     }
-    let papers = all_papers(rt.alloc(), year)?;
+    let papers = all_papers(rt.alloc(), done)?;
     if let Some(name) = &options.paper_bytes {
         write_whole(rt, name, &papers)?;
     }
     if let Some(name) = &options.pages {
-        let pages = all_pages(rt.alloc(), &papers, year.exchanged.traders)?;
+        let pages = all_pages(rt.alloc(), &papers, done.exchanged.traders)?;
         write_whole(rt, name, pages.as_bytes())?;
     }
     Ok(())
@@ -117,10 +111,10 @@ fn write_files(rt: &HostRuntime, options: &Options, year: &Year) -> Result<(), E
 
 fn run(rt: &HostRuntime, options: &Options) -> Result<(), Ended> {
     let name = options.lists.as_deref().unwrap_or("-");
-    let bytes = read_input(rt, name, MOST_LISTS).or_else(|e| tell_failure(rt, name, e))?;
-    let year = exchange_year(rt, bytes)?;
-    write_files(rt, options, &year)?;
-    let text = report(rt.alloc(), &year)?;
+    let bytes = read_input(rt, name, MOST_LISTS).or_else(|e| failed(rt, "exchange", name, e))?;
+    let done = exchange_year(rt, bytes)?;
+    write_files(rt, options, &done)?;
+    let text = report(rt.alloc(), &done)?;
     print!(rt; "{text}")?;
     Ok(())
 }

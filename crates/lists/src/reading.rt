@@ -12,6 +12,9 @@ pub const MOST_TRADERS: u16 = 4000;
 
 pub const MOST_STANDS: u8 = 40;
 
+// The longest lists have as many of both.
+pub const MOST_BYTES: usize = 2 + MOST_TRADERS as usize * (1 + 2 * MOST_STANDS as usize);
+
 // The number of traders.
 fn read_count(bytes: &[u8]) -> Result<u16, Refusal>
     ensures { result ≡ unless (count_fault bytes.now) (number_at bytes.now 0) }
