@@ -47,10 +47,10 @@ fn rank_of(list: &List, own: u16, stand: u16) -> usize
 fn no_less_dear(list: &List, own: u16, got: u16) -> [bool; MOST]
     ensures { (t : ℕ) → t < 8 → slice_index_or result t false ≡ nat_le (rank_in list.now own t) (rank_in list.now own got) }
 {
-    let most = rank_of(list, own, got);
+    let rank_got = rank_of(list, own, got);
     let mut row = [false; MOST];
     for (stand, entry) in row.iter_mut().enumerate() {
-        *entry = rank_of(list, own, stand as u16) <= most;
+        *entry = rank_of(list, own, stand as u16) <= rank_got;
     }
     row
 }
