@@ -6,7 +6,8 @@ ghost use Rattle.std.specs.Prelude.{◌≡◌, ℕ, ◌<◌, ◌≤◌, false, l
 ghost use Rattle.theory.specs.Promise.{rank_in};
 ghost use Rattle.groups.specs.Groups.{AnswerDetermined, Outcome, OutcomeDetermined};
 
-use lists::year::{List, Year};
+use lists::list::List;
+use lists::year::Year;
 use refusals::{Lent, Refusal};
 
 // The most traders that a search is made for.
@@ -47,10 +48,10 @@ fn rank_of(list: &List, own: u16, stand: u16) -> usize
 fn no_less_dear(list: &List, own: u16, got: u16) -> [bool; MOST]
     ensures { (t : ℕ) → t < 8 → slice_index_or result t false ≡ nat_le (rank_in list.now own t) (rank_in list.now own got) }
 {
-    let most = rank_of(list, own, got);
+    let rank_got = rank_of(list, own, got);
     let mut row = [false; MOST];
     for (stand, entry) in row.iter_mut().enumerate() {
-        *entry = rank_of(list, own, stand as u16) <= most;
+        *entry = rank_of(list, own, stand as u16) <= rank_got;
     }
     row
 }

@@ -4,7 +4,7 @@ use crate::entries::{Entry, damaged, earlier, read_entries, write_entries};
 use crate::market::{Year, all_lists};
 use crate::opinions::opinion;
 use crate::tallies::Tally;
-use groups::{Answer, bettering};
+use groups::bettering;
 use papers::checking::check_paper;
 use papers::writing::{MOST_PAPER, paper};
 use sheet::checking::check;
@@ -122,7 +122,7 @@ impl<'a> Trial<'a> {
 
     // No group does better than the results.
     fn try_groups(&self, tally: &mut Tally) {
-        if bettering(&self.bytes, &self.results) != Ok(Answer::Unbettered) {
+        if bettering(&self.bytes, &self.results) != Ok(None) {
             tally.groups_better += 1;
         }
     }
