@@ -1,9 +1,9 @@
 -- How the sheet is written, an entry at a time.
-use Rattle.std.proofs.Common.{◌≡◌, ℕ, suc, ◌+◌, ◌*◌, ◌/◌, ◌%◌, ◌<◌, ◌≤◌, List, [], ◌∷◌, ◌++◌, length, get_or, take, drop, sym, refl, ap, ◌∙◌, append_assoc, mul-suc, arith, length-append}
+use Rattle.std.proofs.Common.{◌≡◌, ℕ, zero, suc, ◌+◌, ◌*◌, ◌/◌, ◌%◌, ◌<◌, ◌≤◌, List, [], ◌∷◌, ◌++◌, length, get_or, take, drop, sym, refl, ap, ◌∙◌, append_assoc, arith, length-append}
 use Rattle.std.specs.List.{range_with_len, flat_map}
 use Rattle.std.proofs.lemmas.List.{flat_map_more, length-take-le, map-id, take-append-drop}
 use Rattle.std.proofs.lemmas.Slice.{put_mid-paste}
-use Rattle.std.proofs.lemmas.List.FromFn.{map-range_with_len_more, length-range_with_len}
+use Rattle.std.proofs.lemmas.List.FromFn.{map-range_with_len_more}
 use Rattle.std.proofs.lemmas.Bool.{le-ltb}
 use Rattle.lists.proofs.Positions.{two_bytes}
 use Rattle.lists.specs.Format.{bytes_of}
@@ -61,19 +61,16 @@ pub low_byte_first : (x : ℕ) → x < 65536 → x / 256 % 256 ≡ x / 256
 low_byte_first x h = omega arith
 
 -- each entry has four bytes
-pub joined_length : (f : ℕ → List ℕ) (m : ℕ) → ((i : ℕ) → length (f i) ≡ m) → (xs : List ℕ) → length (flat_map f xs) ≡ m * length xs
-joined_length f m each [] = omega arith
-joined_length f m each (x ∷ xs) =
-    let one = each x in
-    let more = joined_length f m each xs in
-    let both = length-append (f x) (flat_map f xs) in
-    let by : m * suc (length xs) ≡ m * length xs + m = mul-suc m (length xs) in
+pub four_each : (f : ℕ → List ℕ) (a k : ℕ) → ((i : ℕ) → length (f i) ≡ 4) → length (flat_map f (range_with_len a k)) ≡ 4 * k
+four_each f a zero each = refl
+four_each f a (suc k) each =
+    let one = each a in
+    let more = four_each f (a + 1) k each in
+    let both = length-append (f a) (flat_map f (range_with_len (a + 1) k)) in
     omega arith
 
 pub entries_length : (results work : List ℕ) (n k : ℕ) → length (entries results work n k) ≡ 4 * k
-entries_length results work n k =
-    joined_length (λ i. bytes_of (get_or results i 0) ++ bytes_of (get_or work (2 * n + i) 0)) 4 (λ i. refl) (range_with_len 0 k)
-    ∙ ap (λ m. 4 * m) (length-range_with_len 0 k)
+entries_length results work n k = four_each (λ i. bytes_of (get_or results i 0) ++ bytes_of (get_or work (2 * n + i) 0)) 0 k (λ i. refl)
 
 pub entries_more : (results work : List ℕ) (n k : ℕ) (d sheet : List ℕ) → sheet ≡ entries results work n k ++ drop (4 * k) d →
     4 * k + 4 ≤ length d →
