@@ -12,7 +12,7 @@ use Rattle.lists.proofs.Faults.{no_fault, refused_fault}
 use Rattle.lists.proofs.Positions.{count_of_lists}
 use Rattle.theory.proofs.Results.{valid_sheet_is_the_result}
 use Rattle.sheet.specs.Check.{Checked}
-use Rattle.sheet.specs.Sheet.{stand_in, round_in, got_before, dearer_fault, trader_fault, traders_fault, length_fault, sheet_fault, check_fault, Valid, AcceptsExactly, IsAccepted}
+use Rattle.sheet.specs.Sheet.{stand_in, round_in, got_before, dearer_fault, entry_fault, trader_fault, traders_fault, length_fault, sheet_fault, check_fault, Valid, AcceptsExactly, IsAccepted}
 
 -- a test that finds no fault, and one that finds none where it holds
 pub no_fault_test : (b : Bool) (f : Refusal) → cond b None (Some f) ≡ None → b ≡ true
@@ -90,7 +90,7 @@ pub record Fine (ls : Lists) (sheet : List ℕ) (i : ℕ) : Type 0 where
   pub together : round_in sheet (stand_in sheet i) ≡ round_in sheet i
 
 pub fine_trader : (ls : Lists) (sheet : List ℕ) (i : ℕ) → trader_fault ls sheet i ≡ None → Fine ls sheet i
-unfolding trader_fault
+unfolding trader_fault entry_fault
 fine_trader ls sheet i e =
     let p = no_fault_both _ _ e in
     let q = no_fault_both _ _ p.1 in
@@ -103,7 +103,7 @@ fine_trader ls sheet i e =
     }
 
 pub trader_fine : (ls : Lists) (sheet : List ℕ) (i : ℕ) → Fine ls sheet i → trader_fault ls sheet i ≡ None
-unfolding trader_fault
+unfolding trader_fault entry_fault
 trader_fine ls sheet i f =
     let a = lt-ltb _ _ f.exists in
     let b = eq-eqb _ _ f.together in

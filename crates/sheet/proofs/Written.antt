@@ -13,14 +13,14 @@ use Rattle.theory.proofs.Promises.{result_below}
 use Rattle.theory.proofs.Results.{own_sheet_valid}
 use Rattle.sheet.specs.Sheet.{stand_in, round_in, entry, sheet_of, sheet_fault, Valid, AcceptsWhatWasWritten}
 use Rattle.sheet.proofs.Checked.{valid_accepted}
-use Rattle.sheet.proofs.Writing.{four_each}
 
 -- the entries of k traders from trader a on
 abbrev pub entries : Lists → ℕ → ℕ → List ℕ
 entries ls a k = flat_map (entry ls) (range_with_len a k)
 
 pub length_entries : (ls : Lists) (a k : ℕ) → length (entries ls a k) ≡ 4 * k
-length_entries ls a k = four_each (entry ls) a k (λ i. refl)
+length_entries ls a zero = refl
+length_entries ls a (suc k) = let ih = length_entries ls (a + 1) k in omega arith
 
 pub stand_entry : (ls : Lists) (a k i j p : ℕ) → i < k → j ≡ a + i → p ≡ 4 * i → number_at (entries ls a k) p ≡ result ls j
 stand_entry ls a zero i j p h is at = absurd (omega arith)

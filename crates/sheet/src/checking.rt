@@ -83,6 +83,7 @@ fn check_dearer(sheet: &[u8], list: &List, trader: u16) -> Result<(), Refusal>
 }
 
 // All that is checked of one trader.
+#[tactic(auto, unfolding(crate::specs::Sheet::entry_fault))]
 fn check_entry(
     sheet: &[u8],
     n: u16,
@@ -99,7 +100,7 @@ fn check_entry(
 }
 
 // The entries of all traders, one after the other.
-#[tactic(auto, using(std::proofs::lemmas::List::nil_from_length), unfolding(crate::proofs::Traders::left_fault))]
+#[tactic(auto, using(crate::proofs::Traders::entry_exists, std::proofs::lemmas::List::nil_from_length), unfolding(crate::proofs::Traders::left_fault))]
 fn check_traders(year: &Year, sheet: &[u8]) -> Result<(), Refusal>
     ensures { result ≡ unless (traders_fault year.now sheet.now 0 (length year.now)) tt }
 {
