@@ -1,5 +1,5 @@
 -- A sheet is accepted exactly if it is valid.
-use Rattle.std.proofs.Common.{◌≡◌, ℕ, zero, suc, ◌+◌, ◌<◌, ◌≤◌, Bool, true, false, cond, eqb, List, [], ◌∷◌, length, get_or, Some, None, Ok, Err, Option, Result, sym, refl, ap, ◌∙◌, inl, inr, arith}
+use Rattle.std.proofs.Common.{◌≡◌, ℕ, zero, suc, ◌+◌, ◌<◌, ◌≤◌, Bool, true, false, cond, eqb, List, [], ◌∷◌, length, get_or, Some, None, Ok, Result, sym, refl, ap, ◌∙◌, inl, inr, arith}
 use Rattle.std.proofs.lemmas.List.{get_or_default}
 use Rattle.std.proofs.lemmas.Bool.{cases_Bool, cases_eq, cases_lt, cases_order, eqb-true, eq-eqb, ltb-true, lt-ltb, and_parts, or_from, or_parts, not-true, ne_eqb, eqb-false}
 use Rattle.refusals.specs.declared.Refusal.{Refusal}
@@ -12,12 +12,12 @@ use Rattle.lists.proofs.Faults.{no_fault, refused_fault}
 use Rattle.lists.proofs.Positions.{count_of_lists}
 use Rattle.theory.proofs.Results.{valid_sheet_is_the_result}
 use Rattle.sheet.specs.Check.{Checked}
-use Rattle.sheet.specs.Sheet.{stand_in, round_in, got_before, dearer_fault, trader_fault, traders_fault, length_fault, sheet_fault, check_fault, Valid, AcceptsExactly, IsAccepted}
+use Rattle.sheet.specs.Sheet.{stand_in, round_in, got_before, dearer_fault, entry_fault, trader_fault, traders_fault, length_fault, sheet_fault, check_fault, Valid, AcceptsExactly, IsAccepted}
 
 -- a test that finds no fault, and one that finds none where it holds
 pub no_fault_test : (b : Bool) (f : Refusal) → cond b None (Some f) ≡ None → b ≡ true
 no_fault_test true f e = refl
-no_fault_test false f e = absurd (let z : ◌≡◌ {A = ℕ} 0 1 = cc in omega arith)
+no_fault_test false f e = cc
 
 -- ---- stands got before
 
@@ -90,7 +90,7 @@ pub record Fine (ls : Lists) (sheet : List ℕ) (i : ℕ) : Type 0 where
   pub together : round_in sheet (stand_in sheet i) ≡ round_in sheet i
 
 pub fine_trader : (ls : Lists) (sheet : List ℕ) (i : ℕ) → trader_fault ls sheet i ≡ None → Fine ls sheet i
-unfolding trader_fault
+unfolding trader_fault entry_fault
 fine_trader ls sheet i e =
     let p = no_fault_both _ _ e in
     let q = no_fault_both _ _ p.1 in
@@ -103,7 +103,7 @@ fine_trader ls sheet i e =
     }
 
 pub trader_fine : (ls : Lists) (sheet : List ℕ) (i : ℕ) → Fine ls sheet i → trader_fault ls sheet i ≡ None
-unfolding trader_fault
+unfolding trader_fault entry_fault
 trader_fine ls sheet i f =
     let a = lt-ltb _ _ f.exists in
     let b = eq-eqb _ _ f.together in
@@ -174,9 +174,6 @@ accepts_exactly ls sheet proper = (accepted_valid ls sheet, valid_accepted ls sh
 
 -- ---- the outcome of a check
 
-pub some_not_none : (f : Refusal) → ◌≡◌ {A = Option Refusal} (Some f) None → ⊥
-some_not_none f e = let z : ◌≡◌ {A = ℕ} 0 1 = cc in omega arith
-
 pub checked : (bs sheet : List ℕ) (r : Result ℕ Refusal) → r ≡ unless (check_fault bs sheet) (number_at bs 0) → Checked bs sheet r
 unfolding ValidSheetIsTheResult
 checked bs sheet r e =
@@ -194,27 +191,8 @@ checked bs sheet r e =
           (let bad = refused_fault (check_fault bs sheet) (number_at bs 0) f (sym is ∙ e) in
           let none = valid_accepted (lists_of bs) sheet (accepted_proper bs good) v in
           let all : check_fault bs sheet ≡ None = rw (good, none) in
-          some_not_none f (sym bad ∙ all));
+          cc);
     }
-
--- the lists are accepted, and the faults of the sheet are found one after the other
-module _ (bs sheet : List ℕ) (n : ℕ) (accepted : fault bs ≡ None) (count : n ≡ number_at bs 0) where
-  length_same : length_fault (length (lists_of bs)) sheet ≡ length_fault n sheet
-  length_same = rw (count_of_lists bs, count)
-
-  length_right : length_fault n sheet ≡ None → check_fault bs sheet ≡ traders_fault (lists_of bs) sheet 0 n
-  length_right e = rw (accepted, length_same, e, count_of_lists bs, count)
-
-  pub length_wrong : (f : Refusal) → length_fault n sheet ≡ Some f → ◌≡◌ {A = Result ℕ Refusal} (Err f) (unless (check_fault bs sheet) (number_at bs 0))
-  length_wrong f e = rw (accepted, length_same, e)
-
-  pub trader_wrong : (f : Refusal) → length_fault n sheet ≡ None → traders_fault (lists_of bs) sheet 0 n ≡ Some f →
-      ◌≡◌ {A = Result ℕ Refusal} (Err f) (unless (check_fault bs sheet) (number_at bs 0))
-  trader_wrong f sized e = rw (length_right sized, e)
-
-  pub all_right : length_fault n sheet ≡ None → traders_fault (lists_of bs) sheet 0 n ≡ None →
-      ◌≡◌ {A = Result ℕ Refusal} (Ok n) (unless (check_fault bs sheet) (number_at bs 0))
-  all_right sized e = rw (length_right sized, e) (ap Ok count)
 
 -- a sheet that is accepted
 pub accepted_sheet : (ls : Lists) (sheet : List ℕ) (n : ℕ) (u v : Unit {0}) → n ≡ length ls → ◌≡◌ {A = Result (Unit {0}) Refusal} (Ok u) (unless (length_fault n sheet) tt) →

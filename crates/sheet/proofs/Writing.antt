@@ -1,22 +1,14 @@
 -- How the sheet is written, an entry at a time.
-use Rattle.std.proofs.Common.{◌≡◌, ℕ, suc, ◌+◌, ◌*◌, ◌/◌, ◌%◌, ◌<◌, ◌≤◌, List, [], ◌∷◌, ◌++◌, length, get_or, take, drop, sym, refl, ap, ◌∙◌, append_assoc, mul-suc, arith, length-append}
+use Rattle.std.proofs.Common.{◌≡◌, ℕ, suc, ◌+◌, ◌*◌, ◌/◌, ◌%◌, ◌<◌, ◌≤◌, List, [], ◌∷◌, ◌++◌, length, get_or, take, drop, sym, refl, ap, ◌∙◌, append_assoc, arith, length-append, length-drop}
 use Rattle.std.specs.List.{range_with_len, flat_map}
-use Rattle.std.proofs.lemmas.List.{flat_map_more, length-take-le, map-id, take-append-drop}
+use Rattle.std.proofs.lemmas.List.{length-take-le, take-append-drop, take_at}
 use Rattle.std.proofs.lemmas.Slice.{put_mid-paste}
-use Rattle.std.proofs.lemmas.List.FromFn.{map-range_with_len_more, length-range_with_len}
 use Rattle.std.proofs.lemmas.Bool.{le-ltb}
 use Rattle.lists.proofs.Positions.{two_bytes}
 use Rattle.lists.specs.Format.{bytes_of}
 use borrow.Rule.Slice.PartMut.{put_mid}
+use Rattle.sheet.proofs.Rest.{rest_here, rest_next}
 use Rattle.sheet.specs.Exchange.{entries, entry_put, put_entry}
-
--- one number more
-pub counting_more : (k : ℕ) → range_with_len 0 (k + 1) ≡ range_with_len 0 k ++ k ∷ []
-counting_more k =
-    sym (map-id (range_with_len 0 (k + 1))) ∙ (map-range_with_len_more (λ x. x) 0 k k (omega arith) ∙ ap (λ xs. xs ++ k ∷ []) (map-id (range_with_len 0 k)))
-
-pub joined_counting_more : (f : ℕ → List ℕ) (k : ℕ) → flat_map f (range_with_len 0 (k + 1)) ≡ flat_map f (range_with_len 0 k) ++ f k
-joined_counting_more f k = ap (flat_map f) (counting_more k) ∙ sym (flat_map_more f [] (range_with_len 0 k) k)
 
 -- writing four bytes behind a front
 put_here : (pre rest : List ℕ) (a b c e stand round : ℕ) →
@@ -60,35 +52,42 @@ entry_copied d bytes p k stand round four room are =
 pub low_byte_first : (x : ℕ) → x < 65536 → x / 256 % 256 ≡ x / 256
 low_byte_first x h = omega arith
 
--- each entry has four bytes
-pub joined_length : (f : ℕ → List ℕ) (m : ℕ) → ((i : ℕ) → length (f i) ≡ m) → (xs : List ℕ) → length (flat_map f xs) ≡ m * length xs
-joined_length f m each [] = omega arith
-joined_length f m each (x ∷ xs) =
-    let one = each x in
-    let more = joined_length f m each xs in
-    let both = length-append (f x) (flat_map f xs) in
-    let by : m * suc (length xs) ≡ m * length xs + m = mul-suc m (length xs) in
-    omega arith
+-- what is written up to the end of an entry
+pub written_more : (d rest : List ℕ) (p q stand round : ℕ) → q ≡ p + 4 → p + 4 ≤ length d →
+    take q (entry_put d p stand round) ++ rest ≡ take p d ++ ((bytes_of stand ++ bytes_of round) ++ rest)
+written_more d rest p q stand round end room =
+    let front = length-take-le p d (omega arith) in
+    let size : length (take p d ++ (bytes_of stand ++ bytes_of round)) ≡ p + 4 = length-append (take p d) (bytes_of stand ++ bytes_of round) ∙ omega arith in
+    let all = put_there d p stand round room
+    ∙ ap (λ xs. put_entry xs p stand round) (sym (take-append-drop p d))
+    ∙ put_behind (take p d) d p stand round front room in
+    ap (λ xs. take q xs ++ rest) all
+    ∙ rw end (ap (λ xs. xs ++ rest) (take_at (take p d ++ (bytes_of stand ++ bytes_of round)) (drop (p + 4) d) (p + 4) size)
+    ∙ append_assoc (take p d) (bytes_of stand ++ bytes_of round) rest)
 
-pub entries_length : (results work : List ℕ) (n k : ℕ) → length (entries results work n k) ≡ 4 * k
-entries_length results work n k =
-    joined_length (λ i. bytes_of (get_or results i 0) ++ bytes_of (get_or work (2 * n + i) 0)) 4 (λ i. refl) (range_with_len 0 k)
-    ∙ ap (λ m. 4 * m) (length-range_with_len 0 k)
+-- the entries of the stands and rounds that are left
+unfoldable pub entries_left : List ℕ → List ℕ → List ℕ
+entries_left [] rounds = []
+entries_left (t ∷ ts) [] = []
+entries_left (t ∷ ts) (r ∷ rs) = (bytes_of t ++ bytes_of r) ++ entries_left ts rs
 
-pub entries_more : (results work : List ℕ) (n k : ℕ) (d sheet : List ℕ) → sheet ≡ entries results work n k ++ drop (4 * k) d →
-    4 * k + 4 ≤ length d →
-    put_entry sheet (4 * k) (get_or results k 0) (get_or work (2 * n + k) 0) ≡ entries results work n (k + 1) ++ drop (4 * (k + 1)) d
-entries_more results work n k d sheet so_far room =
-    let f : ℕ → List ℕ = λ i. bytes_of (get_or results i 0) ++ bytes_of (get_or work (2 * n + i) 0) in
-    let four : 4 * (k + 1) ≡ 4 * k + 4 = omega arith in
-    ap (λ s. put_entry s (4 * k) (get_or results k 0) (get_or work (2 * n + k) 0)) so_far
-    ∙ (put_behind (entries results work n k) d (4 * k) (get_or results k 0) (get_or work (2 * n + k) 0) (entries_length results work n k) room
-    ∙ (ap (λ e. e ++ drop (4 * k + 4) d) (sym (joined_counting_more f k)) ∙ rw four))
+left_is : (results work : List ℕ) (n i : ℕ) (ts rs : List ℕ) → ts ≡ drop i results → rs ≡ drop (2 * n + i) work → length rs ≡ length ts →
+    flat_map (λ j. bytes_of (get_or results j 0) ++ bytes_of (get_or work (2 * n + j) 0)) (range_with_len i (length ts)) ≡ entries_left ts rs
+unfolding entries_left
+left_is results work n i [] rs stands rounds same = refl
+left_is results work n i (t ∷ ts) [] stands rounds same = absurd (omega arith)
+left_is results work n i (t ∷ ts) (r ∷ rs) stands rounds same =
+    let on : 2 * n + i + 1 ≡ 2 * n + (i + 1) = omega arith in
+    let stand = rest_here results (t ∷ ts) ts i t stands refl 0 in
+    let round = rest_here work (r ∷ rs) rs (2 * n + i) r rounds refl 0 in
+    let next = rw on at (rest_next work (r ∷ rs) rs (2 * n + i) r rounds refl) in
+    let more = left_is results work n (i + 1) ts rs (rest_next results (t ∷ ts) ts i t stands refl) next (omega arith) in
+    rw (stand, round, more) refl
 
--- the same, as one call writes it
-pub next_entry : (results work d sheet : List ℕ) (n k i stand round : ℕ) → sheet ≡ entries results work n k ++ drop (4 * k) d →
-    length sheet ≡ length d → 4 * k + 4 ≤ length d → i ≡ k → get_or results k 0 ≡ stand → get_or work (2 * n + k) 0 ≡ round →
-    entry_put sheet (4 * i) stand round ≡ entries results work n (k + 1) ++ drop (4 * (k + 1)) d
-next_entry results work d sheet n k i stand round so_far size room at stand_is round_is =
-    rw (at, ← stand_is, ← round_is)
-    (put_there sheet (4 * k) (get_or results k 0) (get_or work (2 * n + k) 0) (omega arith) ∙ entries_more results work n k d sheet so_far room)
+pub all_entries : (results work : List ℕ) → length work ≡ 3 * length results →
+    entries results work (length results) (length results) ≡ entries_left results (drop (2 * length results) work)
+all_entries results work size =
+    let n = length results in
+    let from : 2 * length results + 0 ≡ 2 * length results = omega arith in
+    let rounds : drop (2 * n) work ≡ drop (2 * n + 0) work = rw from refl in
+    left_is results work n 0 results (drop (2 * n) work) refl rounds (length-drop (2 * n) work ∙ omega arith)

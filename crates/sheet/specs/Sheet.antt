@@ -54,7 +54,7 @@ holder_fault sheet i =
     cond (round_in sheet (stand_in sheet i) == round_in sheet i) None (Some (HolderElsewhere i))
 
 -- the first fault of trader i with the list ts, whose stand was got `again`
-abbrev pub entry_fault : List ℕ → ℕ → ℕ → List ℕ → Bool → Option Refusal
+unfoldable pub entry_fault : List ℕ → ℕ → ℕ → List ℕ → Bool → Option Refusal
 entry_fault sheet n i ts again =
     option_or (taken_fault sheet n i again) (option_or (dearer_fault sheet i ts 0) (holder_fault sheet i))
 

@@ -1,8 +1,8 @@
 // Checking anybody's sheet against the lists of a year.
-ghost use Rattle.std.specs.Prelude.{◌≡◌, ◌≤◌, false, length, slice_index_or};
-ghost use Rattle.lists.specs.Format.{lists_of, number_at, unless};
+ghost use Rattle.std.specs.Prelude.{◌≡◌, length};
+ghost use Rattle.lists.specs.Format.{number_at, unless};
 ghost use Rattle.sheet.specs.Check.{Checked};
-ghost use Rattle.sheet.specs.Sheet.{AcceptsExactly, AcceptsWhatWasWritten, check_fault, dearer_fault, entry_fault, holder_fault, later_fault, length_fault, own_fault, sheet_fault, stand_in, taken_fault, traders_fault};
+ghost use Rattle.sheet.specs.Sheet.{AcceptsExactly, AcceptsWhatWasWritten, check_fault, dearer_fault, entry_fault, holder_fault, later_fault, length_fault, own_fault, sheet_fault, taken_fault, traders_fault};
 
 use crate::accepted::AcceptedSheet;
 use crate::entries::{round_in, stand_in};
@@ -22,13 +22,11 @@ fn check_length(sheet: &[u8], n: u16) -> Result<(), Refusal>
     Ok(())
 }
 
-// The stand that a trader got exists, and no trader before got it. `taken` tells the stands that were got before.
-fn check_taken(sheet: &[u8], n: u16, trader: u16, taken: &[bool; 4000]) -> Result<(), Refusal>
-    requires { n ≤ 4000 }
-    ensures { result ≡ unless (taken_fault sheet.now n trader (slice_index_or taken.now (stand_in sheet.now trader) false)) tt }
+// The stand that a trader got exists, and it was not got `again`.
+fn check_taken(sheet: &[u8], n: u16, trader: u16, again: bool) -> Result<(), Refusal>
+    ensures { result ≡ unless (taken_fault sheet.now n trader again) tt }
 {
-    let got = stand_in(sheet, trader);
-    if got >= n || taken[got as usize] {
+    if stand_in(sheet, trader) >= n || again {
         return Err(Refusal::StandTaken { trader });
     }
     Ok(())
@@ -83,32 +81,29 @@ fn check_dearer(sheet: &[u8], list: &List, trader: u16) -> Result<(), Refusal>
     check_own(sheet, trader, list.len())
 }
 
-// All that is checked of one trader.
-fn check_entry(
-    sheet: &[u8],
-    n: u16,
-    list: &List,
-    trader: u16,
-    taken: &[bool; 4000],
-) -> Result<(), Refusal>
-    requires { n ≤ 4000 }
-    ensures { result ≡ unless (entry_fault sheet.now n trader list.now (slice_index_or taken.now (stand_in sheet.now trader) false)) tt }
+// All that is checked of one trader, whose stand a trader before may have got.
+#[tactic(auto, unfolding(crate::specs::Sheet::entry_fault))]
+fn check_entry(sheet: &[u8], n: u16, list: &List, trader: u16, again: bool) -> Result<(), Refusal>
+    ensures { result ≡ unless (entry_fault sheet.now n trader list.now again) tt }
 {
-    check_taken(sheet, n, trader, taken)?;
+    check_taken(sheet, n, trader, again)?;
     check_dearer(sheet, list, trader)?;
     check_holder(sheet, trader)
 }
 
 // The entries of all traders, one after the other.
-#[tactic(auto, using(std::proofs::lemmas::List::nil_from_length), unfolding(crate::proofs::Traders::left_fault))]
+#[tactic(auto, using(crate::proofs::Traders::entry_exists, std::proofs::lemmas::List::nil_from_length), unfolding(crate::proofs::Traders::left_fault))]
 fn check_traders(year: &Year, sheet: &[u8]) -> Result<(), Refusal>
     ensures { result ≡ unless (traders_fault year.now sheet.now 0 (length year.now)) tt }
 {
     let n = year.traders();
+    // the stands that traders before got
     let mut taken = [false; 4000];
     for (trader, list) in (0..n).zip(year.lists()) {
-        check_entry(sheet, n, &list, trader, &taken)?;
-        taken[stand_in(sheet, trader) as usize] = true;
+        let got = stand_in(sheet, trader) as usize;
+        let again = taken.get(got).copied().unwrap_or(false);
+        check_entry(sheet, n, &list, trader, again)?;
+        taken[got] = true;
     }
     Ok(())
 }

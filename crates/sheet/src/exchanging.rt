@@ -63,6 +63,7 @@ fn check_lent(n: u16, results: usize, sheet: usize, work: usize) -> Result<(), R
 }
 
 // Writes the sheet: the results, and the rounds, which stand in the third part of the work slice.
+#[tactic(auto, using(crate::proofs::Writing::all_entries, crate::proofs::Writing::written_more, std::proofs::lemmas::List::nil_from_length, std::proofs::lemmas::List::take_rest), unfolding(crate::proofs::Writing::entries_left))]
 fn write_sheet(sheet: &mut [u8], results: &[u16], work: &[u16])
     requires sheet { length sheet.old ≡ 4 * length results.now }
     requires work { length work.now ≡ 3 * length results.now }

@@ -1,15 +1,14 @@
-use Rattle.std.proofs.Common.{◌≡◌, ℕ, ◌+◌, false, length, get_or}
+use Rattle.std.proofs.Common.{◌≡◌, ◌+◌, length}
 use Rattle.std.specs.Iterator.Adapters.{zip_first, zip_second}
-use Rattle.sheet.specs.Sheet.{got_before, traders_fault}
+use Rattle.sheet.specs.Sheet.{traders_fault}
 use Rattle.sheet.proofs.Traders.{left_fault}
 use Rattle.sheet.proofs.checking.check_traders.Given as goal
 
--- the traders left have the same first fault as all; the marks are those of the traders before
+-- the traders left have the same first fault as all
 abbrev pub invariant-loop-trader : goal.invariant-loop-trader
 invariant-loop-trader l = record {
-  so_far : left_fault l.n l.sheet (zip_first l.trader-iterator).start (zip_second l.trader-iterator) ≡ traders_fault l.year l.sheet 0 (length l.year);
+  so_far : left_fault l.n l.sheet l.taken (zip_first l.trader-iterator).start (zip_second l.trader-iterator) ≡ traders_fault l.year l.sheet 0 (length l.year);
   left : (zip_first l.trader-iterator).start + length (zip_second l.trader-iterator) ≡ (zip_first l.trader-iterator).end;
   end : (zip_first l.trader-iterator).end ≡ l.n;
-  marks : (t : ℕ) → get_or l.taken t false ≡ got_before l.sheet (zip_first l.trader-iterator).start t;
   room : length l.taken ≡ 4000;
 }
