@@ -8,13 +8,14 @@ use Rattle.theory.proofs.Finite.{Turning, stays, orbit, least_true, steps_add}
 use Rattle.theory.proofs.Promises.{result_below, result_apart}
 use Rattle.text.specs.Report.{stand_got, more, ring_on, ring_from, spaced, Ring, RingWritten}
 
+-- no more traders are on a ring than it may have
 pub ring_few : (rs : List ℕ) (home k at : ℕ) → length (ring_on rs home k at) ≤ k
 unfolding ring_on
 ring_few rs home zero at = omega arith
 ring_few rs home (suc k) at =
     let few = ring_few rs home k (stand_got rs at) in grind arith
 
--- where i traders of a ring are written and another one is, what is written with what is left to write stays the same
+-- where i traders of a ring are written and one more is: what is written, with what is left to write, stays the same
 pub one_written : (i x : ℕ) (text ring : List ℕ) → i < 20 →
     (text ++ (32 ∷ decimal x)) ++ (spaced (take (20 - (i + 1)) ring) ++ more (length ring - (20 - (i + 1))))
     ≡ text ++ (spaced (take (20 - i) (x ∷ ring)) ++ more (length (x ∷ ring) - (20 - i)))
