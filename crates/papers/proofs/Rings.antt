@@ -1,8 +1,7 @@
 -- How the first fault of a paper's ring, and of its dearer stands, is found a step at a time.
-use Rattle.std.proofs.Common.{◌≡◌, ℕ, suc, ◌+◌, ◌-◌, ◌<◌, ◌≤◌, Bool, true, false, List, ◌∷◌, length, get_or, set, replicate, take, None, sym, ap, ◌∙◌, add-one, inl, inr, arith}
+use Rattle.std.proofs.Common.{◌≡◌, ℕ, suc, ◌+◌, ◌-◌, ◌<◌, ◌≤◌, Bool, true, false, List, ◌∷◌, length, get_or, set, take, None, sym, ap, ◌∙◌, add-one, inl, inr, arith}
 use Rattle.std.specs.Option.{option_or}
 use Rattle.std.proofs.lemmas.Bool.{cases_eq}
-use Rattle.std.proofs.lemmas.Grind.{common_steps}
 use Rattle.std.proofs.lemmas.List.{get_or-set_same, get_or-set_other}
 use Rattle.lists.specs.Format.{list_bytes, member, numbers, own_list_fault}
 use Rattle.papers.specs.Paper.{ring_on}
@@ -23,10 +22,7 @@ module _ (paper before : List ℕ) (k end : ℕ) where
 pub member_below : (paper : List ℕ) (k : ℕ) (again : Bool) → member_fault paper k again ≡ None → ring_on paper k < 4000
 member_below paper k again e = grind arith
 
--- nobody is named yet, and then one more
-pub none_named : (n t : ℕ) → get_or (replicate n false) t false ≡ false
-none_named n t = grind (arith, common_steps)
-
+-- those who are named, and one more
 pub named_more : (named : List Bool) (t : ℕ) (before : List ℕ) → t < length named → ((u : ℕ) → get_or named u false ≡ member u before) →
     (u : ℕ) → get_or (set named t true) u false ≡ member u (t ∷ before)
 named_more named t before h m u =
@@ -36,11 +32,11 @@ named_more named t before h m u =
     ]
 
 -- the first of the dearer stands that are left from place j on, and those after it
-pub dearer_more : (paper : List ℕ) (t k j end j' end' : ℕ) (left rest : List ℕ) → end' ≡ end → 0 < end - j → k ≡ j → j' ≡ j + 1 → left ≡ t ∷ rest →
+pub dearer_step : (paper : List ℕ) (t k j end j' end' : ℕ) (left rest : List ℕ) → end' ≡ end → 0 < end - j → k ≡ j → j' ≡ j + 1 → left ≡ t ∷ rest →
     dearer_fault paper (take (end - j) left) j
     ≡ option_or (holder_fault paper k t) (option_or (gone_fault paper k) (dearer_fault paper (take (end' - j') rest) j'))
 unfolding dearer_fault
-dearer_more paper t k j end j' end' left rest same h at next is =
+dearer_step paper t k j end j' end' left rest same h at next is =
     let one : end - j ≡ suc (end' - j') = omega arith in
     let up : j' ≡ suc j = omega arith in
     rw (one, at, up, is)

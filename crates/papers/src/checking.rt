@@ -1,5 +1,5 @@
 // Checking a paper, by itself and the trader's list. Bytes that are missing count as 0, and their field is in fault.
-ghost use Rattle.std.specs.Prelude.{◌≡◌, ◌<◌, [], length, slice_index_or, false};
+ghost use Rattle.std.specs.Prelude.{◌≡◌, [], length, slice_index_or, false};
 ghost use Rattle.lists.specs.Format.{unless};
 ghost use Rattle.papers.specs.Paper.{count_on, dearer_than, own_on, ring_length, ring_on, stand_on};
 ghost use Rattle.papers.specs.Faults.{count_fault, dearer_fault, end_fault, field_fault, fields_fault, gone_fault, head_fault, holder_fault, in_place, length_fault, member_fault, own_fault, owner, paper_check_fault, ring_fault, round_fault, stand_fault, tail_fault};
@@ -100,6 +100,7 @@ impl<'a> Paper<'a> {
         ensures { result ≡ unless (ring_fault self.now [] (ring_length self.now) 0) tt }
     {
         let mut named = [false; 4000];
+        // by places and not by `ring()`: a trader is checked, and its field told, by its place
         for k in 0..self.ring_length() {
             let trader = self.check_trader(k, &named)?;
             named[trader as usize] = true;

@@ -6,7 +6,6 @@ ghost use Rattle.papers.specs.Paper.{dearer_than};
 use lists::list::List;
 
 // The list names the stand.
-#[tactic(auto, using(crate::proofs::Places::any_member))]
 pub(crate) fn names(list: &List, stand: u16) -> bool
     ensures { result ≡ member stand list.now }
 {
@@ -14,7 +13,6 @@ pub(crate) fn names(list: &List, stand: u16) -> bool
 }
 
 // How many stands of a list are dearer than a stand: those before it.
-#[tactic(auto, using(crate::proofs::Places::place_dearer))]
 pub(crate) fn dearer_count(list: &List, stand: u16) -> u8
     ensures answer { result ≡ length (dearer_than stand list.now) }
     ensures few { result ≤ length list.now }

@@ -1,5 +1,5 @@
 // Writing a trader's paper from the lists of a year and a sheet.
-ghost use Rattle.std.specs.Prelude.{◌≡◌, ◌<◌, length};
+ghost use Rattle.std.specs.Prelude.{◌≡◌, length};
 ghost use Rattle.std.specs.Option.{option_or};
 ghost use Rattle.lists.specs.Format.{lists_of, unless};
 ghost use Rattle.sheet.specs.Sheet.{ring_of};

@@ -7,7 +7,7 @@ use Rattle.lists.proofs.Faults.{no_fault, refused_fault}
 use Rattle.papers.specs.Faults.{dearer_fault, gone_fault, holder_fault}
 use Rattle.papers.specs.Paper.{count_on, dearer_than, stand_on}
 use Rattle.papers.proofs.Places.{dearer_few, dearer_first}
-use Rattle.papers.proofs.Rings.{dearer_end, dearer_more}
+use Rattle.papers.proofs.Rings.{dearer_end, dearer_step}
 use Rattle.papers.proofs.paper.Paper.check_dearer.Goals as goal
 use Rattle.papers.proofs.paper.Paper.check_dearer.Goals.{In-Some}
 
@@ -18,7 +18,7 @@ more : (c : In-Some) →
     (dearer_fault c.args.self.now (take ((zip_first c.next.new.self).end - (zip_first c.next.new.self).start) (numbers (zip_second c.next.new.self).bytes.now)) (zip_first c.next.new.self).start))
 more c =
     let e = c.in-Some.ensures.steps in
-    sym c.loop-j.invariant.5 ∙ dearer_more c.args.self.now c.in-Some.stand c.in-Some.j _ _ _ _ _ _ e.0.0 e.0.1.0 e.0.1.1 e.0.1.2 e.1
+    sym c.loop-j.invariant.5 ∙ dearer_step c.args.self.now c.in-Some.stand c.in-Some.j _ _ _ _ _ _ e.0.0 e.0.1.0 e.0.1.1 e.0.1.2 e.1
 
 pub loop-j-init : goal.loop-j-init
 loop-j-init c =

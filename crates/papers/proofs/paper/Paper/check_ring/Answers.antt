@@ -1,15 +1,16 @@
 use Rattle.std.proofs.Common.{◌≡◌, ◌-◌, ◌<◌, [], ◌∷◌, length, refl, sym, ap, ◌∙◌, arith, length-set}
 use Rattle.std.proofs.lemmas.Result.{err_from_is_err_and}
 use Rattle.lists.proofs.Faults.{no_fault, refused_fault}
+use Rattle.sheet.proofs.Traders.{no_marks}
 use Rattle.papers.specs.Faults.{ring_fault}
 use Rattle.papers.specs.Paper.{ring_length, ring_on}
-use Rattle.papers.proofs.Rings.{member_below, named_more, none_named, ring_done, ring_more}
+use Rattle.papers.proofs.Rings.{member_below, named_more, ring_done, ring_more}
 use Rattle.papers.proofs.paper.Paper.check_ring.Goals as goal
 
 pub loop-k-init : goal.loop-k-init
 loop-k-init c =
     let all : c.ring_length-k-end.result - 0 ≡ ring_length c.args.self.now = omega (arith, c.ring_length-k-end.ensures) in
-    ([], ap (λ m. ring_fault c.args.self.now [] m 0) all, none_named 4000, refl)
+    ([], ap (λ m. ring_fault c.args.self.now [] m 0) all, no_marks 4000, refl)
 
 pub returns-in_err-trader : goal.returns-in_err-trader
 returns-in_err-trader c =
