@@ -1,7 +1,7 @@
+pub mod Likeness
 pub mod Steps
 pub mod Places
 pub mod Sheets
-pub mod Likeness
 pub mod Written
 pub mod Agreed
 pub mod Rows

@@ -1,57 +1,58 @@
--- Where two byte strings first differ, found a byte at a time.
-use Rattle.std.proofs.Common.{◌≡◌, ℕ, suc, ◌+◌, ◌<◌, ◌≤◌, min, eqb, List, [], ◌∷◌, length, get_or, drop, Some, None, Option, sym, refl, ap, ◌∙◌, inl, inr, add-one, arith}
-use Rattle.std.proofs.lemmas.List.{drop_all, drop_more}
-use Rattle.std.proofs.lemmas.Bool.{cases_Bool, cases_lt, eq-eqb, eqb-true, ne_eqb}
-use Rattle.agreement.specs.Agreement.{at_field, difference}
+-- Where two byte strings first differ.
+use Rattle.std.proofs.Common.{◌≡◌, ℕ, suc, ◌+◌, min, not, eqb, List, [], ◌∷◌, length, Some, None, Option, sym, refl, ap, ◌∙◌, inl, inr, add-one, arith}
+use Rattle.std.proofs.lemmas.Option.{none-some}
+use Rattle.std.proofs.lemmas.Bool.{cases_Bool, eqb-true}
+use Rattle.std.proofs.lemmas.Iterator.Adapters.{position_from-zero}
+use Rattle.std.specs.List.{position, position_from, zip}
+use Rattle.std.specs.Option.{option_or}
+use Rattle.agreement.specs.Agreement.{difference}
 
-module _ (xs ys : List ℕ) (p : ℕ) (whole : Option ℕ) (so_far : difference (drop p xs) (drop p ys) p ≡ whole) where
-  -- both go on
-  module _ (more : p < length xs) (also : p < length ys) where
-    heads : whole ≡ difference (get_or xs p 0 ∷ drop (p + 1) xs) (get_or ys p 0 ∷ drop (p + 1) ys) p
-    heads = sym so_far ∙ rw (drop_more xs p 0 more, drop_more ys p 0 also)
+-- the first byte that differs, of those that both have
+abbrev pub apart_from : List ℕ → List ℕ → ℕ → Option ℕ
+apart_from xs ys p = position_from (λ q. not (eqb q.0 q.1)) p (zip xs ys)
 
-    pub differs_here : (get_or xs p 0 ≡ get_or ys p 0 → ⊥) → whole ≡ Some p
-    unfolding difference
-    differs_here apart = heads ∙ rw (ne_eqb (get_or xs p 0) (get_or ys p 0) apart)
+-- one of them ends, or both
+one_ends : (xs ys : List ℕ) (p : ℕ) → (length xs ≡ length ys → ⊥) → difference xs ys p ≡ option_or (apart_from xs ys p) (Some (p + min (length xs) (length ys)))
+unfolding difference
+one_ends [] [] p other = absurd (other refl)
+one_ends [] (y ∷ ys) p other = grind arith
+one_ends (x ∷ xs) [] p other = grind arith
+one_ends (x ∷ xs) (y ∷ ys) p other =
+    let ih = one_ends xs ys (suc p) (λ e. other (ap suc e)) in
+    elim (cases_Bool (eqb x y)) [
+      | inl e ↦ rw (e, ih, add-one) (ap (λ k. option_or (apart_from xs ys (suc p)) (Some k)) (omega arith))
+      | inr e ↦ rw e
+    ]
 
-    pub same_here : get_or xs p 0 ≡ get_or ys p 0 → difference (drop (p + 1) xs) (drop (p + 1) ys) (p + 1) ≡ whole
-    unfolding difference
-    same_here same =
-        let e : whole ≡ difference (drop (p + 1) xs) (drop (p + 1) ys) (suc p) = heads ∙ rw (eq-eqb (get_or xs p 0) (get_or ys p 0) same) in
-        sym (e ∙ ap (difference (drop (p + 1) xs) (drop (p + 1) ys)) (sym (add-one p)))
+both_end : (xs ys : List ℕ) (p : ℕ) → length xs ≡ length ys → difference xs ys p ≡ apart_from xs ys p
+unfolding difference
+both_end [] [] p same = refl
+both_end [] (y ∷ ys) p same = absurd (omega arith)
+both_end (x ∷ xs) [] p same = absurd (omega arith)
+both_end (x ∷ xs) (y ∷ ys) p same =
+    let ih = both_end xs ys (suc p) (omega arith) in
+    elim (cases_Bool (eqb x y)) [ inl e ↦ rw (e, ih, add-one) | inr e ↦ rw e ]
 
-  -- one of them ends, or both
-  pub one_ends : p ≡ min (length xs) (length ys) → (length xs ≡ length ys → ⊥) → whole ≡ Some p
-  unfolding difference
-  one_ends is apart =
-      elim (cases_lt p (length xs)) [
-        | inl more ↦ (let end : length ys ≤ p = omega (arith, apart) in sym so_far ∙ rw (drop_more xs p 0 more, drop_all p ys end))
-        | inr end ↦ (let more : p < length ys = omega (arith, apart) in sym so_far ∙ rw (drop_all p xs end, drop_more ys p 0 more))
-      ]
+module _ (xs ys : List ℕ) where
+  abbrev apart : Option ℕ
+  apart = position (λ q. not (eqb q.0 q.1)) (zip xs ys)
 
-  pub both_end : p ≡ min (length xs) (length ys) → length xs ≡ length ys → whole ≡ None
-  unfolding difference
-  both_end is same =
-      let end : length xs ≤ p = omega arith in
-      let also : length ys ≤ p = omega arith in
-      sym so_far ∙ rw (drop_all p xs end, drop_all p ys also)
+  pub ends_apart : (length xs ≡ length ys → ⊥) → difference xs ys 0 ≡ option_or apart (Some (min (length xs) (length ys)))
+  ends_apart other =
+      let none : 0 + min (length xs) (length ys) ≡ min (length xs) (length ys) = omega arith in
+      one_ends xs ys 0 other ∙ rw (none, position_from-zero (λ q. not (eqb q.0 q.1)) (zip xs ys))
+
+  pub ends_together : length xs ≡ length ys → difference xs ys 0 ≡ apart
+  ends_together same = both_end xs ys 0 same ∙ sym (position_from-zero (λ q. not (eqb q.0 q.1)) (zip xs ys))
 
 -- where they do not differ, they are the same
 pub alike : (xs ys : List ℕ) (p : ℕ) → difference xs ys p ≡ None → xs ≡ ys
 unfolding difference
 alike [] [] p e = refl
-alike [] (y ∷ ys) p e = absurd (let z : ◌≡◌ {A = ℕ} 0 1 = cc in omega arith)
-alike (x ∷ xs) [] p e = absurd (let z : ◌≡◌ {A = ℕ} 0 1 = cc in omega arith)
+alike [] (y ∷ ys) p e = grind arith
+alike (x ∷ xs) [] p e = grind arith
 alike (x ∷ xs) (y ∷ ys) p e =
     elim (cases_Bool (eqb x y)) [
-      | inl same ↦
-          (let head = eqb-true x y same in
-          let e' : difference xs ys (suc p) ≡ None = rw same at e in
-          let tail = alike xs ys (suc p) e' in
-          cc)
-      | inr other ↦ absurd (let e' : ◌≡◌ {A = Option ℕ} (Some p) None = rw other at e in let z : ◌≡◌ {A = ℕ} 0 1 = cc in omega arith)
+      | inl same ↦ (let head = eqb-true x y same in let tail = alike xs ys (suc p) (rw same at e) in cc)
+      | inr other ↦ absurd (none-some p (sym (rw other at e)))
     ]
-
-pub no_field : (paper : List ℕ) (o : Option ℕ) → at_field paper o ≡ None → o ≡ None
-no_field paper (Some p) e = absurd (let z : ◌≡◌ {A = ℕ} 0 1 = cc in omega arith)
-no_field paper None e = refl

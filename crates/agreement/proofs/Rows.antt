@@ -9,7 +9,8 @@ use Rattle.sheet.specs.Sheet.{round_in, stand_in}
 use Rattle.papers.specs.Paper.{count_on, count_place, paper_for, paper_of, round_on, stand_on}
 use Rattle.papers.proofs.Fields.{count_written, ring_length_written, round_written, stand_written}
 use Rattle.papers.proofs.Writes.{length_paper}
-use Rattle.agreement.specs.Agreement.{all_papers, entry_on, nth_paper, paper_at, paper_start, papers_from, sheet_on}
+use Rattle.papers.specs.Papers.{nth_paper, paper_at, paper_start}
+use Rattle.agreement.specs.Agreement.{all_papers, entry_on, papers_from, sheet_on}
 
 -- a paper that is as long as its own numbers say, and what follows it
 module _ (paper rest : List ℕ) (size : length paper ≡ count_place paper + 1 + 4 * count_on paper) where

@@ -1,47 +1,29 @@
 -- The papers of all traders, one after another in the order of their numbers: each passes with its trader's list, and all are
 -- papers of one sheet, which is valid for the lists.
-use Rattle.std.specs.Prelude.{◌≡◌, ℕ, zero, suc, ◌+◌, ◌*◌, ◌/◌, ◌<◌, cond, List, [], ◌∷◌, ◌++◌, length, take, drop, Some, None, Ok, Err, Option, Result, ◌==◌, nat_lt, slice_index}
-use Rattle.std.specs.Option.{option_or}
+use Rattle.std.specs.Prelude.{◌≡◌, ℕ, zero, suc, ◌+◌, ◌/◌, ◌<◌, cond, List, [], ◌∷◌, ◌++◌, length, Some, None, Ok, Err, Option, Result, ◌==◌, nat_lt, slice_index}
+use Rattle.std.specs.Option.{option_map, option_or}
 use Rattle.refusals.specs.declared.Refusal.{Refusal}
 use Rattle.refusals.specs.declared.Refusal.TheVariants.{PaperFault}
-use Rattle.lists.specs.Format.{bytes_of, end_fault, fault, lists_of, number_at, start}
+use Rattle.lists.specs.Format.{bytes_of, end_fault, fault, lists_of}
 use Rattle.theory.specs.Trade.{Lists, result}
+use Rattle.sheet.specs.Sheet as sheets
 use Rattle.sheet.specs.Sheet.{Valid, check_fault, sheet_of}
 use Rattle.papers.specs.Faults.{paper_check_fault}
-use Rattle.papers.specs.Paper.{count_on, count_place, own_on, paper_of, round_on, stand_on}
+use Rattle.papers.specs.Paper.{count_place, own_on, paper_of, round_on, stand_on}
+use Rattle.papers.specs.Papers.{nth_paper, paper_start}
+use Rattle.papers.specs.Trust.{own_list}
 use Rattle.agreement.specs.declared.Fault.{Fault}
 use Rattle.agreement.specs.declared.Fault.TheVariants.{Refused, Paper}
-
--- ---- where the papers stand
-
--- the paper that begins at byte q: as long as its own numbers say, and cut where the bytes end
-abbrev pub paper_at : List ℕ → ℕ → List ℕ
-paper_at ps q = take (count_place (drop q ps) + 1 + 4 * count_on (drop q ps)) (drop q ps)
-
--- where the paper of trader i begins: where the one before it ends
-abbrev pub paper_start : List ℕ → ℕ → ℕ
-paper_start ps zero = 0
-paper_start ps (suc i) = paper_start ps i + length (paper_at ps (paper_start ps i))
-
--- the paper of trader i
-abbrev pub nth_paper : List ℕ → ℕ → List ℕ
-nth_paper ps i = paper_at ps (paper_start ps i)
-
--- the list that begins at byte p: its count's byte and its stands
-abbrev pub list_at : List ℕ → ℕ → List ℕ
-list_at bs p = take (1 + 2 * slice_index bs p) (drop p bs)
 
 -- ---- faults
 
 -- a fault of the lists, of all the papers' bytes or of the sheet that they make
 abbrev pub refused : Option Refusal → Option Fault
-refused (Some f) = Some (Refused f)
-refused None = None
+refused = option_map (λ f. Refused f)
 
 -- a fault of the paper of trader i
 abbrev pub on_paper : ℕ → Option Refusal → Option Fault
-on_paper i (Some f) = Some (Paper i f)
-on_paper i None = None
+on_paper i = option_map (λ f. Paper i f)
 
 -- the first fault of k traders from trader i on, of whom `of` says each one's
 unfoldable pub first_fault : (ℕ → Option Fault) → ℕ → ℕ → Option Fault
@@ -54,8 +36,9 @@ first_fault of i (suc k) = option_or (of i) (first_fault of (suc i) k)
 abbrev pub own_fault : List ℕ → List ℕ → ℕ → Option Refusal
 own_fault list paper i = option_or (paper_check_fault list paper) (cond (own_on paper == i) None (Some (PaperFault 0)))
 
-abbrev pub place_fault : List ℕ → List ℕ → ℕ → Option Fault
-place_fault bs ps i = on_paper i (own_fault (list_at bs (start bs i)) (nth_paper ps i) i)
+-- the paper in trader i's place, with the bytes of that trader's list
+abbrev pub place_fault : Lists → List ℕ → ℕ → Option Fault
+place_fault ls ps i = on_paper i (own_fault (own_list ls i) (nth_paper ps i) i)
 
 -- ---- the sheet that the papers make
 
@@ -82,27 +65,31 @@ abbrev pub field_at : List ℕ → ℕ → ℕ
 field_at paper p = cond (nat_lt (count_place paper) p) ((p + 1) / 2) (p / 2)
 
 abbrev pub at_field : List ℕ → Option ℕ → Option Refusal
-at_field paper (Some p) = Some (PaperFault (field_at paper p))
-at_field paper None = None
+at_field paper = option_map (λ p. PaperFault (field_at paper p))
 
 -- the first field of a paper that is not as on the right one
 abbrev pub unlike_fault : List ℕ → List ℕ → Option Refusal
 unlike_fault paper right = at_field paper (difference paper right 0)
 
-abbrev pub agree_fault : List ℕ → List ℕ → List ℕ → ℕ → Option Fault
-agree_fault bs ps sheet i = on_paper i (unlike_fault (nth_paper ps i) (paper_of (lists_of bs) sheet i))
+abbrev pub agree_fault : Lists → List ℕ → List ℕ → ℕ → Option Fault
+agree_fault ls ps sheet i = on_paper i (unlike_fault (nth_paper ps i) (paper_of ls sheet i))
 
--- the first fault of the sheet that the papers of n traders make, and then of each paper beside that of the sheet
-abbrev pub sheet_fault : List ℕ → List ℕ → ℕ → Option Fault
-sheet_fault bs ps n = option_or (refused (check_fault bs (sheet_on ps n))) (first_fault (agree_fault bs ps (sheet_on ps n)) 0 n)
+-- the first fault of the sheet that the papers of all traders make, and then of each paper beside that of the sheet
+abbrev pub sheet_fault : Lists → List ℕ → Option Fault
+sheet_fault ls ps =
+    let sheet = sheet_on ps (length ls) in
+    option_or (refused (sheets.sheet_fault ls sheet)) (first_fault (agree_fault ls ps sheet) 0 (length ls))
 
--- The first fault of the lists of a year and of the papers for it: of the lists; trader after trader, of each paper by itself; of
--- what follows the last; of the sheet that they make; trader after trader, of each paper beside that of the sheet.
+-- The first fault of the papers for the lists of a year: trader after trader, of each paper by itself; of what follows the last;
+-- of the sheet that they make; trader after trader, of each paper beside that of the sheet.
+unfoldable pub year_fault : Lists → List ℕ → Option Fault
+year_fault ls ps =
+    option_or (first_fault (place_fault ls ps) 0 (length ls))
+    (option_or (refused (end_fault ps (paper_start ps (length ls)))) (sheet_fault ls ps))
+
+-- The first fault of the lists of a year, and then of the papers for it.
 abbrev pub papers_fault : List ℕ → List ℕ → Option Fault
-papers_fault bs ps =
-    option_or (refused (fault bs))
-    (option_or (first_fault (place_fault bs ps) 0 (number_at bs 0))
-    (option_or (refused (end_fault ps (paper_start ps (number_at bs 0)))) (sheet_fault bs ps (number_at bs 0))))
+papers_fault bs ps = option_or (refused (fault bs)) (year_fault (lists_of bs) ps)
 
 -- ---- what accepted papers say
 

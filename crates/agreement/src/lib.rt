@@ -1,16 +1,17 @@
 // The papers of all traders together: each passes with its trader's list, and they agree with each other.
 #![tactic(auto)]
 
-ghost use Rattle.std.specs.Prelude.{◌≡◌};
-ghost use Rattle.lists.specs.Format.{end_fault, fault, number_at, unless};
-ghost use Rattle.agreement.specs.Agreement.{AgreedBy, papers_fault, refused};
+ghost use Rattle.std.specs.Prelude.{◌≡◌, length};
+ghost use Rattle.lists.specs.Format.{Encodable, number_at, unless};
+ghost use Rattle.agreement.specs.Agreement.{AgreedBy, papers_fault, year_fault};
 
 mod each;
 pub mod theorems;
 mod together;
 
 use each::check_each;
-use lists::reading::read;
+use lists::reading::check_end;
+use lists::year::Year;
 use refusals::Refusal;
 use together::check_together;
 
@@ -23,38 +24,37 @@ pub enum Fault {
     Paper { trader: u16, refusal: Refusal },
 }
 
-// The number of traders of a year.
-fn read_lists(lists: &[u8]) -> Result<u16, Fault>
-    ensures { result ≡ unless (refused (fault lists.now)) (number_at lists.now 0) }
-{
-    match read(lists) {
-        Ok(n) => Ok(n),
-        Err(refusal) => Err(Fault::Refused { refusal }),
+impl From<Refusal> for Fault {
+    ghost use Rattle.agreement.specs.declared.Fault.TheVariants.{Refused};
+
+    ghost from_gives = { λ refusal fault. fault ≡ Refused refusal };
+
+    fn from(refusal: Refusal) -> Fault {
+        Fault::Refused { refusal }
     }
 }
 
-// Nothing follows the last paper, which ends at byte `end`.
-fn check_end(papers: &[u8], end: usize) -> Result<usize, Fault>
-    ensures { result ≡ unless (refused (end_fault papers.now end)) end }
+// Checks the papers of a year's traders: how many there are, or the first fault.
+#[tactic(auto, unfolding(crate::specs::Agreement::year_fault))]
+fn check_year(year: &Year, papers: &[u8]) -> Result<u16, Fault>
+    requires { Encodable year.now }
+    ensures { result ≡ unless (year_fault year.now papers.now) (length year.now) }
 {
-    if end < papers.len() {
-        return Err(Fault::Refused {
-            refusal: Refusal::WrongLength { at: end },
-        });
-    }
-    Ok(end)
+    let end = check_each(year, papers)?;
+    check_end(papers, end)?;
+    check_together(year, papers)?;
+    Ok(year.traders())
 }
 
 // Checks the papers of all traders, one after another in the order of their numbers, against the lists of a year: the number of
 // traders, or the first fault.
+#[tactic(auto, using(crate::proofs::Agreed::agreed_by, lists::proofs::Accepted::accepted_encodable, lists::proofs::Positions::count_of_lists))]
 pub fn check_papers(lists: &[u8], papers: &[u8]) -> Result<u16, Fault>
     ensures answer { result ≡ unless (papers_fault lists.now papers.now) (number_at lists.now 0) }
     ensures says { AgreedBy result lists.now papers.now }
 {
-    let n = read_lists(lists)?;
-    let end = check_each(lists, papers, n)?;
-    check_end(papers, end)?;
-    check_together(lists, papers, n)
+    let year = Year::read(lists)?;
+    check_year(&year, papers)
 }
 
 #[cfg(test)]

@@ -1,127 +1,105 @@
 // All papers beside the one sheet that their stands and rounds make.
-ghost use Rattle.std.specs.Prelude.{◌≡◌, ◌+◌, ◌*◌, ◌<◌, ◌≤◌, ◌++◌, length, drop, None};
-ghost use Rattle.lists.specs.Format.{fault, lists_of, number_at, unless};
-ghost use Rattle.sheet.specs.Sheet.{check_fault};
-ghost use Rattle.papers.specs.Paper.{paper_of};
-ghost use Rattle.agreement.specs.Agreement.{AgreedBy, agree_fault, difference, field_at, first_fault, on_paper, refused, sheet_fault, sheet_on, unlike_fault};
+ghost use Rattle.std.specs.Prelude.{◌≡◌, ◌*◌, length, not, position, ◌==◌};
+ghost use Rattle.std.specs.List.{zip};
+ghost use Rattle.std.specs.Option.{option_or};
+ghost use Rattle.lists.specs.Format.{Encodable, unless};
+ghost use Rattle.papers.specs.Paper.{paper_of, room_fault, trader_fault};
+ghost use Rattle.agreement.specs.Agreement.{agree_fault, difference, field_at, first_fault, sheet_fault, sheet_on, unlike_fault};
 
 use crate::Fault;
-use crate::each::paper_in;
-use lists::bytes::number_at;
-use papers::writing::{MOST_PAPER, paper};
+use lists::reading::MOST_TRADERS;
+use lists::year::Year;
+use papers::paper::Paper;
+use papers::splitting::Papers;
+use papers::writing::{MOST_PAPER, write_paper};
 use refusals::Refusal;
-use sheet::checking::check;
+use sheet::accepted::AcceptedSheet;
 use sheet::entries::write_entry;
 
-// The most that a sheet has: four bytes for each of 4,000 traders.
-const MOST_SHEET: usize = 16_000;
+// The most that a sheet has: four bytes for each trader.
+const MOST_SHEET: usize = 4 * MOST_TRADERS as usize;
 
 // Writes the sheet that the papers of n traders make.
 fn write_sheet(papers: &[u8], n: u16, sheet: &mut [u8])
-    requires { 4 * n ≤ length sheet.old }
-    ensures { sheet.new ≡ sheet_on papers.now n ++ drop (4 * n) sheet.old }
+    requires { length sheet.old ≡ 4 * n }
+    ensures { sheet.new ≡ sheet_on papers.now n }
 {
-    let mut from = 0;
-    for trader in 0..n {
-        let paper = paper_in(papers, from);
-        write_entry(
-            sheet,
-            4 * trader as usize,
-            number_at(paper, 4),
-            number_at(paper, 2),
-        );
-        from += paper.len();
+    for (trader, paper) in (0..n).zip(Papers::of(papers)) {
+        let paper = Paper::of(paper);
+        write_entry(sheet, 4 * trader as usize, paper.stand(), paper.round());
     }
 }
 
+// The first place at which two byte strings differ, of those that both have.
+fn first_apart(given: &[u8], right: &[u8]) -> Option<usize>
+    ensures { result ≡ position (λ bytes. not (bytes.0 == bytes.1)) (zip given.now right.now) }
+{
+    given.iter().zip(right).position(|(a, b)| a != b)
+}
+
 // Where two byte strings first differ: a byte, or the end of one of them.
+#[tactic(auto, using(crate::proofs::Likeness::ends_apart, crate::proofs::Likeness::ends_together))]
 fn first_difference(given: &[u8], right: &[u8]) -> Option<usize>
     ensures { result ≡ difference given.now right.now 0 }
 {
-    let common = given.len().min(right.len());
-    for at in 0..common {
-        if given[at] != right[at] {
-            return Some(at);
-        }
+    let apart = first_apart(given, right);
+    if given.len() == right.len() {
+        return apart;
     }
-    if given.len() != right.len() {
-        return Some(common);
-    }
-    None
+    apart.or(Some(given.len().min(right.len())))
 }
 
 // The field to which a byte of a paper belongs.
 fn field_at(paper: &[u8], at: usize) -> usize
     ensures { result ≡ field_at paper.now at }
 {
-    let count_at = 8 + 2 * number_at(paper, 6) as usize;
-    if count_at < at { at - at / 2 } else { at / 2 }
+    if Paper::of(paper).count_place() < at {
+        at.div_ceil(2)
+    } else {
+        at / 2
+    }
 }
 
 // A trader's paper is the right one.
-fn check_like(given: &[u8], right: &[u8], trader: u16) -> Result<u16, Fault>
-    ensures { result ≡ unless (on_paper trader (unlike_fault given.now right.now)) trader }
+fn check_like(given: &[u8], right: &[u8]) -> Result<(), Refusal>
+    ensures { result ≡ unless (unlike_fault given.now right.now) tt }
 {
     match first_difference(given, right) {
-        Some(at) => {
-            let field = field_at(given, at);
-            Err(Fault::Paper {
-                trader,
-                refusal: Refusal::PaperFault { field },
-            })
-        }
-        None => Ok(trader),
+        Some(at) => Err(Refusal::PaperFault {
+            field: field_at(given, at),
+        }),
+        None => Ok(()),
     }
 }
 
 // A trader's paper is the one for the sheet.
-fn check_written(lists: &[u8], sheet: &[u8], given: &[u8], trader: u16) -> Result<u16, Fault>
-    requires accepted { check_fault lists.now sheet.now ≡ None }
-    requires known { trader < number_at lists.now 0 }
-    ensures { result ≡ unless (on_paper trader (unlike_fault given.now (paper_of (lists_of lists.now) sheet.now trader))) trader }
+fn check_written(sheet: &AcceptedSheet, given: &[u8], trader: u16) -> Result<(), Refusal>
+    ensures { result ≡ unless (option_or (trader_fault (length sheet.now.lists) trader) (option_or (room_fault 8169 (paper_of sheet.now.lists sheet.now.bytes trader)) (unlike_fault given.now (paper_of sheet.now.lists sheet.now.bytes trader)))) tt }
 {
-    let mut right = [0u8; MOST_PAPER];
-    match paper(lists, sheet, trader, &mut right) {
-        Ok(size) => check_like(given, &right[..size], trader),
-        Err(refusal) => Err(Fault::Paper { trader, refusal }),
-    }
+    let mut right = [0; MOST_PAPER];
+    let size = write_paper(sheet, trader, &mut right)?;
+    check_like(given, &right[..size])
 }
 
-// The paper of each of n traders is the one for the sheet.
-fn check_papers_written(lists: &[u8], sheet: &[u8], papers: &[u8], n: u16) -> Result<u16, Fault>
-    requires accepted { check_fault lists.now sheet.now ≡ None }
-    requires traders { n ≡ number_at lists.now 0 }
-    ensures { result ≡ unless (first_fault (agree_fault lists.now papers.now sheet.now) 0 n) n }
+// The paper of each trader is the one for the sheet.
+fn check_all_written(sheet: &AcceptedSheet, bytes: &[u8]) -> Result<(), Fault>
+    requires { Encodable sheet.now.lists }
+    ensures { result ≡ unless (first_fault (agree_fault sheet.now.lists bytes.now sheet.now.bytes) 0 (length sheet.now.lists)) tt }
 {
-    let mut from = 0;
-    for trader in 0..n {
-        let given = paper_in(papers, from);
-        check_written(lists, sheet, given, trader)?;
-        from += given.len();
+    for (trader, given) in (0..sheet.traders()).zip(Papers::of(bytes)) {
+        check_written(sheet, given, trader).map_err(|refusal| Fault::Paper { trader, refusal })?;
     }
-    Ok(n)
+    Ok(())
 }
 
-// The checker of sheets accepts the sheet.
-fn check_sheet(lists: &[u8], sheet: &[u8]) -> Result<u16, Fault>
-    ensures { result ≡ unless (refused (check_fault lists.now sheet.now)) (number_at lists.now 0) }
+// The papers make an accepted sheet, and each is the one for that sheet.
+pub(crate) fn check_together(year: &Year, bytes: &[u8]) -> Result<(), Fault>
+    requires { Encodable year.now }
+    ensures { result ≡ unless (sheet_fault year.now bytes.now) tt }
 {
-    match check(lists, sheet) {
-        Ok(n) => Ok(n),
-        Err(refusal) => Err(Fault::Refused { refusal }),
-    }
-}
-
-// The papers of n traders make an accepted sheet, and each is the one for that sheet.
-pub(crate) fn check_together(lists: &[u8], papers: &[u8], n: u16) -> Result<u16, Fault>
-    requires accepted { fault lists.now ≡ None }
-    requires traders { n ≡ number_at lists.now 0 }
-    ensures answer { result ≡ unless (sheet_fault lists.now papers.now n) n }
-    ensures says { AgreedBy result lists.now papers.now }
-{
-    let mut bytes = [0u8; MOST_SHEET];
-    write_sheet(papers, n, &mut bytes);
-    let sheet = &bytes[..4 * n as usize];
-    check_sheet(lists, sheet)?;
-    check_papers_written(lists, sheet, papers, n)
+    let mut sheet = [0; MOST_SHEET];
+    let sheet = &mut sheet[..4 * year.traders() as usize];
+    write_sheet(bytes, year.traders(), sheet);
+    let sheet = AcceptedSheet::check(year, sheet)?;
+    check_all_written(&sheet, bytes)
 }

@@ -1,58 +1,48 @@
-use Rattle.std.proofs.Common.{◌≡◌, ◌+◌, ◌-◌, ◌<◌, length, Ok, ap, ◌∙◌, arith, rules}
+use Rattle.std.proofs.Common.{◌≡◌, ◌-◌, ◌<◌, inl, inr, length, ap, ◌∙◌, arith, length-drop, rules}
 use Rattle.std.proofs.lemmas.Result.{err_from_is_err_and}
-use Rattle.lists.specs.Format.{number_at}
-use Rattle.agreement.specs.Agreement.{first_fault, paper_start, place_fault}
-use Rattle.agreement.proofs.Places.{fault_there, list_inside, list_there, next_list, next_paper, paper_within}
-use Rattle.agreement.proofs.Steps.{accepted_by, first_next, first_none, first_wrong, refused_by}
+use Rattle.std.specs.Iterator.Adapters.{zip_first, zip_second}
+use Rattle.papers.proofs.Splits.{start_is}
+use Rattle.agreement.specs.Agreement.{place_fault}
+use Rattle.agreement.proofs.Places.{lists_after, papers_after, place_is}
+use Rattle.agreement.proofs.Steps.{none_found, turn_fine, turn_wrong}
 use Rattle.agreement.proofs.each.check_each.Goals as goal
-
-pub list_in-list-requires : goal.list_in-list-requires
-list_in-list-requires c =
-    let below : c.loop-trader.trader < number_at c.args.lists.now 0 = omega (arith, c.requires.traders) in
-    list_there c.args.lists.now c.requires.accepted c.loop-trader.trader c.loop-trader.at below c.loop-trader.invariant.1
-
-pub overflow_add-at : goal.overflow_add-at
-overflow_add-at c =
-    let below : c.loop-trader.trader < number_at c.args.lists.now 0 = omega (arith, c.requires.traders) in
-    let inside = list_inside c.args.lists.now c.requires.accepted c.loop-trader.trader c.loop-trader.at below c.loop-trader.invariant.1
-    (length c.list_in-list.result.now) (ap length c.list_in-list.ensures) in
-    search rules
-
-pub returns-in_err-check_own : goal.returns-in_err-check_own
-returns-in_err-check_own c =
-    let p = err_from_is_err_and c.from_residual.result c.from_residual.ensures.1 in
-    let bs = c.args.lists.now in
-    let ps = c.args.papers.now in
-    let i = c.loop-trader.trader in
-    let more : 0 < c.args.n - c.loop-trader.trader = omega arith in
-    let bad = fault_there bs ps c.list_in-list.result.now c.paper_in-paper.result.now i c.loop-trader.at c.loop-trader.from _
-    c.list_in-list.ensures c.paper_in-paper.ensures c.loop-trader.invariant.1 c.loop-trader.invariant.2 (refused_by _ _ _ c.in_err-check_own.ensures) in
-    let whole = first_wrong (place_fault bs ps) i (c.args.n - i) (first_fault (place_fault bs ps) 0 c.args.n) c.loop-trader.invariant.0 _ more bad in
-    rw (p.1, p.2) (simp whole)
 
 pub loop-trader-preserved : goal.loop-trader-preserved
 loop-trader-preserved c =
-    let bs = c.args.lists.now in
-    let ps = c.args.papers.now in
-    let i = c.loop-trader.trader in
-    let below : c.loop-trader.trader < number_at c.args.lists.now 0 = omega (arith, c.requires.traders) in
-    let one : c.args.n - c.loop-trader.trader ≡ c.args.n - (c.loop-trader.trader + 1) + 1 = omega arith in
-    let ok = fault_there bs ps c.list_in-list.result.now c.paper_in-paper.result.now i c.loop-trader.at c.loop-trader.from _
-    c.list_in-list.ensures c.paper_in-paper.ensures c.loop-trader.invariant.1 c.loop-trader.invariant.2 (accepted_by _ _ _ c.in_ok-check_own.ensures).0 in
-    let size = ap length c.paper_in-paper.ensures in
-    let inside = paper_within ps c.loop-trader.from c.loop-trader.invariant.3 in (
-      first_next (place_fault bs ps) i (c.args.n - i) (first_fault (place_fault bs ps) 0 c.args.n) c.loop-trader.invariant.0 (c.args.n - (i + 1)) one ok,
-      next_list bs c.requires.accepted i c.loop-trader.at below c.loop-trader.invariant.1 (length c.list_in-list.result.now) (ap length c.list_in-list.ensures),
-      next_paper ps i c.loop-trader.from (length c.paper_in-paper.result.now) c.loop-trader.invariant.2 size,
-      omega arith,
-    )
+    let inv = c.loop-trader.invariant in
+    let steps = c.in-Some.ensures.steps in
+    let i = (zip_first c.loop-trader.trader-iterator).start in
+    let lists = zip_second c.loop-trader.trader-iterator in
+    let papers = c.loop-trader.papers in
+    let next = c.next_paper-paper.ensures in
+    let here = place_is c.args.year.now lists _ c.args.bytes.now papers _ i _ _ steps.0.1.1 inv.lists steps.1 inv.papers next.paper in
+    record {
+      fine = turn_fine _ i _ inv.fine steps.0.1.1 _ here _ _ c.check_own.ensures c.map_err.ensures.cases (λ f g k. search rules) _ c.in_ok-map_err.was _ steps.0.1.2;
+      lists = lists_after c.args.year.now lists _ i _ inv.lists steps.1 _ steps.0.1.2;
+      papers = papers_after c.args.bytes.now papers _ i inv.papers next.paper _ next.left _ steps.0.1.2;
+      within = omega arith;
+      end = omega arith;
+    }
+
+pub returns-in_err-map_err : goal.returns-in_err-map_err
+returns-in_err-map_err c =
+    let p = err_from_is_err_and c.from_residual.result c.from_residual.ensures.1 in
+    let inv = c.loop-trader.invariant in
+    let steps = c.in-Some.ensures.steps in
+    let i = (zip_first c.loop-trader.trader-iterator).start in
+    let lists = zip_second c.loop-trader.trader-iterator in
+    let papers = c.loop-trader.papers in
+    let here = place_is c.args.year.now lists _ c.args.bytes.now papers _ i _ _ steps.0.1.1 inv.lists steps.1 inv.papers c.next_paper-paper.ensures.paper in
+    let below : c.in-Some.trader < length c.args.year.now = omega arith in
+    rw (p.1, p.2, turn_wrong (place_fault c.args.year.now c.args.bytes.now) i _ inv.fine steps.0.1.1 _ here _ _ c.check_own.ensures c.map_err.ensures.cases (λ f g k. search rules) _ below _ c.in_err-map_err.was)
 
 pub returns : goal.returns
 returns c =
-    let bs = c.args.lists.now in
-    let ps = c.args.papers.now in
-    let i = c.loop-trader.trader in
-    let none : c.args.n - c.loop-trader.trader ≡ 0 = omega arith in
-    let same : c.loop-trader.trader ≡ c.args.n = omega arith in
-    let fine = first_none (place_fault bs ps) i (c.args.n - i) (first_fault (place_fault bs ps) 0 c.args.n) c.loop-trader.invariant.0 none in
-    simp fine (ap Ok (c.loop-trader.invariant.2 ∙ ap (paper_start ps) same))
+    let inv = c.loop-trader.invariant in
+    let ls = c.args.year.now in
+    let ps = c.args.bytes.now in
+    let left : length (zip_second c.loop-trader.trader-iterator) ≡ length c.args.year.now - (zip_first c.loop-trader.trader-iterator).start =
+    ap length inv.lists ∙ length-drop (zip_first c.loop-trader.trader-iterator).start ls in
+    let all : (zip_first c.loop-trader.trader-iterator).start ≡ length c.args.year.now =
+    elim c.in-None.ensures.steps [ inl n ↦ omega arith | inr n ↦ (let none = ap length n.1.0 in omega arith) ] in
+    rw (none_found (place_fault ls ps) 0 (length ls) (λ j h. inv.fine j (omega arith)), c.left.ensures, inv.papers, all, start_is ps (length ls))

@@ -1,11 +1,15 @@
-use Rattle.std.proofs.Common.{◌≡◌, ◌-◌, ◌≤◌, length}
-use Rattle.lists.specs.Format.{start}
-use Rattle.agreement.specs.Agreement.{first_fault, paper_start, place_fault}
+use Rattle.std.proofs.Common.{◌≡◌, ℕ, ◌<◌, ◌≤◌, length, drop, None}
+use Rattle.std.specs.Iterator.Adapters.{zip_first, zip_second}
+use Rattle.papers.specs.Papers.{from_paper}
+use Rattle.agreement.specs.Agreement.{place_fault}
 use Rattle.agreement.proofs.each.check_each.Given as goal
 
+-- the papers of the traders before are without a fault, and the lists and papers of the others are left
 abbrev pub invariant-loop-trader : goal.invariant-loop-trader
-invariant-loop-trader l =
-    (first_fault (place_fault l.lists l.papers) l.trader (l.n - l.trader) ≡ first_fault (place_fault l.lists l.papers) 0 l.n)
-    × (l.at ≡ start l.lists l.trader)
-    × (l.from ≡ paper_start l.papers l.trader)
-    × (l.from ≤ length l.papers)
+invariant-loop-trader l = record {
+  fine : (i : ℕ) → i < (zip_first l.trader-iterator).start → place_fault l.year l.bytes i ≡ None;
+  lists : zip_second l.trader-iterator ≡ drop (zip_first l.trader-iterator).start l.year;
+  papers : l.papers ≡ from_paper l.bytes (zip_first l.trader-iterator).start;
+  within : (zip_first l.trader-iterator).start ≤ length l.year;
+  end : (zip_first l.trader-iterator).end ≡ length l.year;
+}
