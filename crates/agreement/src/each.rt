@@ -5,7 +5,8 @@ ghost use Rattle.papers.specs.Papers.{paper_start};
 ghost use Rattle.agreement.specs.Agreement.{first_fault, own_fault, place_fault};
 
 use crate::Fault;
-use lists::year::{List, Year};
+use lists::list::List;
+use lists::year::Year;
 use papers::checking::check_paper;
 use papers::splitting::Papers;
 use refusals::Refusal;

@@ -1,5 +1,5 @@
 -- How the first fault of a paper's ring, and of its dearer stands, is found a step at a time.
-use Rattle.std.proofs.Common.{◌≡◌, ℕ, suc, ◌+◌, ◌-◌, ◌<◌, ◌≤◌, Bool, true, false, List, ◌∷◌, length, get_or, set, take, None, sym, ap, ◌∙◌, add-one, inl, inr, arith}
+use Rattle.std.proofs.Common.{◌≡◌, ℕ, suc, ◌+◌, ◌-◌, ◌<◌, ◌≤◌, Bool, true, false, List, ◌∷◌, length, get_or, set, take, None, sym, ap, ◌∙◌, add-one, inl, inr, arith, zero, replicate, refl}
 use Rattle.std.specs.Option.{option_or}
 use Rattle.std.proofs.lemmas.Bool.{cases_eq}
 use Rattle.std.proofs.lemmas.List.{get_or-set_same, get_or-set_other}
@@ -50,3 +50,9 @@ pub list_right : (list paper : List ℕ) (own : ℕ) → own ≡ owner paper →
     fields_fault (numbers (list_bytes list 0)) paper ≡ paper_check_fault list paper
 list_right list paper own who right =
     ap (λ o. option_or o (fields_fault (numbers (list_bytes list 0)) paper)) (sym right ∙ ap (own_list_fault list) who)
+
+-- nobody was named at first
+pub no_marks : (n t : ℕ) → get_or (replicate n false) t false ≡ false
+no_marks zero t = refl
+no_marks (suc n) zero = refl
+no_marks (suc n) (suc t) = no_marks n t
