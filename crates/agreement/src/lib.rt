@@ -13,6 +13,7 @@ use each::check_each;
 use lists::reading::check_end;
 use lists::year::Year;
 use refusals::Refusal;
+use std::fmt;
 use together::check_together;
 
 // Why papers are refused.
@@ -31,6 +32,21 @@ impl From<Refusal> for Fault {
 
     fn from(refusal: Refusal) -> Fault {
         Fault::Refused { refusal }
+    }
+}
+
+// How a fault is told: a paper's after its trader.
+impl fmt::Display for Fault {
+    ghost use Rattle.std.specs.Prelude.{Some};
+    ghost use Rattle.agreement.specs.Told.{fault_text};
+
+    ghost output = { λ fault. Some (fault_text fault) };
+
+    fn fmt<W: fmt::Write>(&self, f: &mut fmt::Formatter<W>) -> fmt::Result {
+        match self {
+            Fault::Refused { refusal } => write!(f, "{refusal}"),
+            Fault::Paper { trader, refusal } => write!(f, "paper of trader {trader}: {refusal}"),
+        }
     }
 }
 

@@ -120,12 +120,6 @@ no_marks zero t = omega arith
 no_marks (suc n) zero = omega arith
 no_marks (suc n) (suc t) = no_marks n t
 
-pub no_mark : (n t : ℕ) → eqb (get_or (replicate n 0) t 0) 1 ≡ false
-no_mark n t = ne_eqb _ _ (λ e. let none = no_marks n t in omega arith)
-
 -- all bytes: the count, and then the lists
-pub count_wrong : (bs : List ℕ) (f : Refusal) → count_fault bs ≡ Some f → fault bs ≡ Some f
-count_wrong bs f e = ap (λ o. option_or o (lists_fault bs (number_at bs 0) 0 (number_at bs 0) 2)) e
-
 pub count_right : (bs : List ℕ) → count_fault bs ≡ None → fault bs ≡ lists_fault bs (number_at bs 0) 0 (number_at bs 0) 2
 count_right bs e = ap (λ o. option_or o (lists_fault bs (number_at bs 0) 0 (number_at bs 0) 2)) e

@@ -28,20 +28,6 @@ accepted_list bs own right end bytes =
     one_list bs (numbers (list_bytes bs 0)) (whole ∙ sym (cc (good_length bs 4000 own 0 good, stands, all)))
     (rw (good_length bs 4000 own 0 good) good.short)
 
--- the stands of a list, past its count
-module _ (bs : List ℕ) (list : IsList bs) where
-  pub count_is : get_or bs 0 0 ≡ length (numbers (list_bytes bs 0))
-  count_is = ap (λ xs. get_or xs 0 0) list.whole
-
-  pub size_is : length bs ≡ 1 + 2 * length (numbers (list_bytes bs 0))
-  size_is =
-      let whole = ap length list.whole in
-      let stands = length_of_stands (numbers (list_bytes bs 0)) in
-      omega arith
-
-  pub stands_are : drop 1 bs ≡ encode_stands (numbers (list_bytes bs 0))
-  stands_are = ap (drop 1) list.whole
-
 -- the lists ls that are left, each short, are those that their bytes give
 pub lists_are : (bs : List ℕ) (ls : Lists) (k : ℕ) → bs ≡ encode_lists ls → length ls ≡ k → lists_from bs k 0 ≡ ls
 lists_are bs ls k is count = rw (← count) (lists_again bs ls 0 is)

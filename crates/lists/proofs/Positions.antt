@@ -1,10 +1,7 @@
 -- Where the lists of a year begin, and the numbers that stand there.
-use Rattle.std.proofs.Common.{◌≡◌, ℕ, zero, suc, ◌+◌, ◌-◌, ◌*◌, ◌<◌, ◌≤◌, List, [], ◌∷◌, length, get_or, take, drop, sym, refl, ap, ◌∙◌, add-one, arith}
-use Rattle.std.proofs.lemmas.List.{drop_more, drop_all, take_all, length-drop, length-take-le}
+use Rattle.std.proofs.Common.{◌≡◌, ℕ, zero, suc, ◌+◌, ◌-◌, ◌*◌, ◌<◌, ◌≤◌, List, [], ◌∷◌, length, get_or, take, drop, refl, ap, ◌∙◌, arith}
+use Rattle.std.proofs.lemmas.List.{drop_more, take_all}
 use Rattle.lists.specs.Format.{start, next_start, number_at, numbers, list_bytes, lists_from, lists_of}
-
-pub start_more : (bs : List ℕ) (i : ℕ) → start bs (i + 1) ≡ next_start bs (start bs i)
-start_more bs i = rw (add-one i)
 
 -- k two-byte numbers, the first of which begins at p
 abbrev pub numbers_from : List ℕ → ℕ → ℕ → List ℕ
@@ -15,11 +12,6 @@ pub count_of_numbers : (bs : List ℕ) (k p : ℕ) → length (numbers_from bs k
 count_of_numbers bs zero p = refl
 count_of_numbers bs (suc k) p = ap suc (count_of_numbers bs k (p + 2))
 
-pub number_is : (bs : List ℕ) (k p j q : ℕ) → q ≡ p + 2 * j → j < k → get_or (numbers_from bs k p) j 0 ≡ number_at bs q
-number_is bs zero p j q is h = absurd (omega arith)
-number_is bs (suc k) p zero q is h = let same : q ≡ p = omega arith in rw same
-number_is bs (suc k) p (suc j) q is h = number_is bs k (p + 2) j q (omega arith) (omega arith)
-
 -- the bytes from p on begin with the two bytes of a number
 pub two_bytes : (bs : List ℕ) (p : ℕ) → p + 2 ≤ length bs → drop p bs ≡ get_or bs p 0 ∷ get_or bs (p + 1) 0 ∷ drop (p + 2) bs
 two_bytes bs p h =
@@ -28,14 +20,6 @@ two_bytes bs p h =
     let on : p + 1 + 1 ≡ p + 2 = omega arith in
     let next' : drop (p + 1) bs ≡ get_or bs (p + 1) 0 ∷ drop (p + 2) bs = rw on at next in
     one ∙ ap (◌∷◌ (get_or bs p 0)) next'
-
--- the numbers from an even place on: one, and the others
-pub numbers_step : (xs : List ℕ) (p : ℕ) → 2 * p + 1 < length xs →
-    numbers (drop (2 * p) xs) ≡ number_at xs (2 * p) ∷ numbers (drop (2 * (p + 1)) xs)
-unfolding numbers
-numbers_step xs p h =
-    let on : 2 * p + 2 ≡ 2 * (p + 1) = omega arith in
-    ap numbers (two_bytes xs (2 * p) (omega arith)) ∙ rw on
 
 -- fewer than two bytes give no number
 pub numbers_none : (xs : List ℕ) → length xs < 2 → numbers xs ≡ []
@@ -65,28 +49,6 @@ numbers_are bs (suc k) p h =
     let two : 2 * suc k ≡ suc (suc (2 * k)) = omega arith in
     let ih = numbers_are bs k (p + 2) (omega arith) in
     rw (two, two_bytes bs p (omega arith), ih)
-
-numbers_whole : (xs : List ℕ) (k : ℕ) → length xs ≡ 2 * k → numbers xs ≡ numbers_from xs k 0
-numbers_whole xs k even = ap numbers (sym (take_all (2 * k) xs (omega arith))) ∙ numbers_are xs k 0 (omega arith)
-
-pub numbers_length : (xs : List ℕ) (k : ℕ) → length xs ≡ 2 * k → length (numbers xs) ≡ k
-numbers_length xs k even = rw (numbers_whole xs k even) (count_of_numbers xs k 0)
-
-pub numbers_at : (xs : List ℕ) (k j : ℕ) → length xs ≡ 2 * k → j < k → get_or (numbers xs) j 0 ≡ number_at xs (2 * j)
-numbers_at xs k j even h = rw (numbers_whole xs k even) (number_is xs k 0 j (2 * j) (omega arith) h)
-
--- the part that holds the stands of a list
-pub length_of_part : (bs : List ℕ) (p : ℕ) → next_start bs p ≤ length bs → length (list_bytes bs p) ≡ 2 * get_or bs p 0
-length_of_part bs p h =
-    let left = length-drop (p + 1) bs in
-    length-take-le (2 * get_or bs p 0) (drop (p + 1) bs) (omega arith)
-
--- where bytes are missing, the part is what is there
-pub part_past : (bs : List ℕ) (p : ℕ) → length bs ≤ p → list_bytes bs p ≡ []
-part_past bs p h = ap (take (2 * get_or bs p 0)) (drop_all (p + 1) bs (omega arith)) ∙ take_all (2 * get_or bs p 0) [] (omega arith)
-
-pub part_short : (bs : List ℕ) (p : ℕ) → length bs < next_start bs p → list_bytes bs p ≡ drop (p + 1) bs
-part_short bs p h = let left = length-drop (p + 1) bs in take_all (2 * get_or bs p 0) (drop (p + 1) bs) (omega arith)
 
 -- the lists, one for each trader
 pub count_from : (bs : List ℕ) (k p : ℕ) → length (lists_from bs k p) ≡ k

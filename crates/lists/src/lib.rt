@@ -1,4 +1,4 @@
-// The lists of a year: their bytes, the refusals, and the definitions of the exchange that every crate above cites.
+// The lists of a year: types over their bytes, the reader, and the laws of the format.
 #![tactic(auto)]
 
 pub mod bytes;

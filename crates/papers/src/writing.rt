@@ -8,12 +8,13 @@ ghost use Rattle.papers.specs.Paper.{left_by, paper_fault, paper_for, paper_of, 
 use crate::list::dearer_count;
 use crate::writer::Writer;
 use lists::list::List;
+use lists::reading::{MOST_STANDS, MOST_TRADERS};
 use lists::year::Year;
 use refusals::{Lent, Refusal};
 use sheet::accepted::AcceptedSheet;
 
-// The longest paper has 8 + 2 * 4000 + 1 + 4 * 40 bytes: a ring of all traders, and a list of 40 dearer stands.
-pub const MOST_PAPER: usize = 8169;
+// The longest paper: four numbers, a ring of all traders, and a full list of dearer stands, with its count.
+pub const MOST_PAPER: usize = 8 + 2 * MOST_TRADERS as usize + 1 + 4 * MOST_STANDS as usize;
 
 // Writes the paper of a trader with that list, whose ring has that many members: its length.
 fn write_for(

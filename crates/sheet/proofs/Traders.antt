@@ -68,10 +68,3 @@ pub entry_exists : (sheet : List ℕ) (n i : ℕ) (ts : List ℕ) (again : Bool)
     entry_fault sheet n i ts again ≡ cond (ltb (stand_in sheet i) n) (entry_fault sheet n i ts again) (Some (StandTaken i))
 unfolding entry_fault
 entry_exists sheet n i ts again = elim (cases_Bool (ltb (stand_in sheet i) n)) [ inl e ↦ rw e | inr e ↦ rw e ]
-
--- the list of trader i, which begins at byte `at` of accepted bytes, has at most 40 stands
-pub few_stands : (bs : List ℕ) (i at : ℕ) → Begins bs i at → length (list_bytes bs at) ≤ 80
-few_stands bs i at begins =
-    let few : get_or bs at 0 ≤ 40 = rw begins.2 (short_list bs begins.0 i begins.1) in
-    let long = length_of_part bs at (begins_within bs i at begins) in
-    omega arith

@@ -19,6 +19,7 @@ fn stand_got(results: &[u16], trader: usize) -> usize
         .map_or(trader, |&stand| usize::from(stand))
 }
 
+// As the sheet's `Ring`, but over results: one over both would need a trait and a type for each, and be longer than this.
 // The traders of a ring who are still to come: `next` first, at most `left` of them, until the next would be `home`.
 #[derive(Drop)]
 struct Ring<'a> {
