@@ -4,7 +4,7 @@ use crate::entries::{Entry, damaged, earlier, read_entries, write_entries};
 use crate::market::{Year, all_lists};
 use crate::opinions::opinion;
 use crate::tallies::{Count, Tally};
-use groups::{Answer, bettering};
+use groups::bettering;
 use papers::checking::check_paper;
 use papers::writing::paper;
 use sheet::checking::check;
@@ -171,7 +171,7 @@ fn paper_holds(bytes: &[u8], sheet: &[u8], trader: u16, list: &[u8]) -> bool {
 // No group does better than the results.
 fn try_groups(bytes: &[u8], results: &[u16], tally: &mut Tally) {
     match bettering(bytes, results) {
-        Ok(Answer::Unbettered) => {}
+        Ok(None) => {}
         _ => tally.add(Count::GroupsBetter, 1),
     }
 }
