@@ -70,12 +70,12 @@ pub record Found (given : Search) (chosen : Choices) (i : ℕ) (share : Choices)
   pub past : (j : ℕ) → size given ≤ j → choice_of share j ≡ choice_of chosen j
 
 -- every stand chosen is one that the group brought
-abbrev pub Brought : Search → Choices → Type 0
-Brought given chosen = (j : ℕ) → j < size given → in_group chosen j ≡ true → in_group chosen (stand_of chosen j) ≡ true
+abbrev pub Brought : ℕ → Choices → Type 0
+Brought n chosen = (j : ℕ) → j < n → in_group chosen j ≡ true → in_group chosen (stand_of chosen j) ≡ true
 
 -- some stand chosen is one that the group did not bring
-abbrev pub Unbrought : Search → Choices → Type 0
-Unbrought given chosen = (j : ℕ) × (j < size given) × (in_group chosen j ≡ true) × (in_group chosen (stand_of chosen j) ≡ false)
+abbrev pub Unbrought : ℕ → Choices → Type 0
+Unbrought n chosen = (j : ℕ) × (j < n) × (in_group chosen j ≡ true) × (in_group chosen (stand_of chosen j) ≡ false)
 
 -- somebody in the group has another stand than the one got
 abbrev pub Differs : Search → Choices → Type 0

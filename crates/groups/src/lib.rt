@@ -2,7 +2,7 @@
 // brought, for one that does better than results give. It goes by the lists and the results alone.
 #![tactic(auto)]
 
-ghost use Rattle.std.specs.Prelude.{◌≡◌, ℕ, ◌<◌, ◌≤◌, false, length, IfSome, MatchBool, MatchOption, nat_le, slice_index_or, take};
+ghost use Rattle.std.specs.Prelude.{◌≡◌, ℕ, ◌<◌, ◌≤◌, false, length, All, IfSome, MatchBool, MatchOption, nat_le, slice_index_or, take};
 ghost use Rattle.theory.specs.Promise.{rank_in};
 ghost use Rattle.groups.specs.Groups.{AnswerDetermined, Outcome, OutcomeDetermined};
 
@@ -84,16 +84,15 @@ impl<'a> Search<'a> {
     }
 
     // Every stand chosen is one that the group brought.
-    fn all_brought(&self, chosen: &Share) -> bool
-        requires { Sound self.now chosen.now (size self.now) }
-        ensures { MatchBool result (Brought self.now chosen.now) (Unbrought self.now chosen.now) }
+    fn all_brought(chosen: &Share) -> bool
+        requires { All (λ choice. IfSome choice (λ stand. stand < 8)) chosen.now }
+        ensures { MatchBool result (Brought 8 chosen.now) (Unbrought 8 chosen.now) }
     {
         chosen.iter().all(|choice| choice.is_none_or(|stand| chosen[stand as usize].is_some()))
     }
 
     // Somebody in the group has another stand than the one got.
     fn some_differs(&self, chosen: &Share) -> bool
-        requires { Sound self.now chosen.now (size self.now) }
         ensures { MatchBool result (Differs self.now chosen.now) (Same self.now chosen.now) }
     {
         chosen
@@ -130,7 +129,7 @@ impl<'a> Search<'a> {
     {
         let traders = self.results.len();
         if trader == traders {
-            if self.all_brought(&chosen) && self.some_differs(&chosen) {
+            if Search::all_brought(&chosen) && self.some_differs(&chosen) {
                 return Some(chosen);
             }
             return None;
