@@ -1,4 +1,4 @@
-use Rattle.std.proofs.Common.{◌≡◌, ◌++◌, length, refl, ap, ◌∙◌, arith, rules}
+use Rattle.std.proofs.Common.{◌≡◌, length, refl, ap, ◌∙◌, arith, rules}
 use Rattle.lists.specs.Format.{bytes_of, encode_stands}
 use Rattle.papers.specs.Paper.{paper_for, written}
 use Rattle.papers.proofs.Sources.{no_room, enough_room}
