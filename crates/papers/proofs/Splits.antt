@@ -2,7 +2,11 @@
 use Rattle.std.proofs.Common.{◌≡◌, ℕ, zero, suc, ◌+◌, ◌-◌, ◌*◌, ◌≤◌, List, length, drop, add-one, arith}
 use Rattle.std.proofs.lemmas.List.{drop-drop, length-drop, length-take}
 use Rattle.papers.specs.Paper.{count_on, count_place}
-use Rattle.papers.specs.Papers.{from_paper, nth_paper, paper_start}
+use Rattle.papers.specs.Papers.{nth_paper, paper_start}
+
+-- the bytes from the paper of trader i on
+abbrev pub from_paper : List ℕ → ℕ → List ℕ
+from_paper ps i = drop (paper_start ps i) ps
 
 -- past the paper of trader i comes that of the next trader
 pub next_from : (ps : List ℕ) (i : ℕ) → drop (length (nth_paper ps i)) (from_paper ps i) ≡ from_paper ps (i + 1)

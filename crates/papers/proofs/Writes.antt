@@ -28,6 +28,16 @@ written_next at next xs ys d e f one two is room = two ∙ (ap (written next ys)
 
 -- ---- the parts of a paper
 
+-- the four numbers before the ring's traders
+pub head_written : (own round stand members : ℕ) (d : List ℕ) → 8 ≤ length d →
+    written 6 (bytes_of members) (written 4 (bytes_of stand) (written 2 (bytes_of round) (written 0 (bytes_of own) d)))
+    ≡ written 0 (bytes_of own ++ (bytes_of round ++ (bytes_of stand ++ bytes_of members))) d
+head_written own round stand members d room =
+    let two = written_more 0 2 (bytes_of own) (bytes_of round) d refl (omega arith) in
+    let three = written_more 0 4 (bytes_of own ++ bytes_of round) (bytes_of stand) d refl (omega arith) in
+    let four = written_more 0 6 (bytes_of own ++ bytes_of round ++ bytes_of stand) (bytes_of members) d refl (omega arith) in
+    ap (λ w. written 6 (bytes_of members) (written 4 (bytes_of stand) w)) two ∙ (ap (written 6 (bytes_of members)) three ∙ four)
+
 -- a trader, and those after it
 pub ring_written : (at next t : ℕ) (ts left d e : List ℕ) → left ≡ t ∷ ts → e ≡ written at (bytes_of t) d → next ≡ at + 2 → at ≤ length d →
     written at (encode_stands left) d ≡ written next (encode_stands ts) e
@@ -89,7 +99,7 @@ module _ (sheet : List ℕ) (n i members round stand dearer : ℕ) (l d : List �
   paper_size = let size = length_paper sheet n i l in let count = dearer_is in omega arith
 
   module _ (room : 8 + 2 * members + 1 + 4 * dearer ≤ length d) (head ring count all : List ℕ) (p q r : ℕ)
-      (one : head ≡ written 0 (bytes_of i ++ (bytes_of round ++ (bytes_of stand ++ bytes_of members))) d)
+      (one : head ≡ written 6 (bytes_of members) (written 4 (bytes_of stand) (written 2 (bytes_of round) (written 0 (bytes_of i) d))))
       (two : ring ≡ written p (encode_stands (ring_of sheet n i)) head) (p_is : p ≡ 8)
       (three : count ≡ written q (dearer ∷ []) ring) (q_is : q ≡ 8 + 2 * members)
       (four : all ≡ written r (gone_bytes sheet (take dearer l)) count) (r_is : r ≡ 8 + 2 * members + 1) where
@@ -100,7 +110,7 @@ module _ (sheet : List ℕ) (n i members round stand dearer : ℕ) (l d : List �
         let stands = length_of_stands (ring_of sheet n i) in
         let both = length-append (head_bytes sheet n i) (encode_stands (ring_of sheet n i)) in
         let more = length-append (head_bytes sheet n i ++ encode_stands (ring_of sheet n i)) (dearer ∷ []) in
-        let head_done : head ≡ written 0 (head_bytes sheet n i) d = one ∙ rw (o, s, m) in
+        let head_done : head ≡ written 0 (head_bytes sheet n i) d = one ∙ (head_written i round stand members d (omega arith) ∙ rw (o, s, m)) in
         let ring_done = written_next 0 p H R d head ring head_done two (omega arith) (omega arith) in
         let count_done = written_next 0 q (H ++ R) (dearer ∷ []) d ring count ring_done three (omega arith) (omega arith) in
         written_next 0 r ((H ++ R) ++ (dearer ∷ [])) (gone_bytes sheet (take dearer l)) d count all count_done four (omega arith) (omega arith)

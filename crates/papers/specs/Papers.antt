@@ -16,10 +16,6 @@ paper_start ps (suc i) = paper_start ps i + length (paper_at ps (paper_start ps 
 abbrev pub nth_paper : List ℕ → ℕ → List ℕ
 nth_paper ps i = paper_at ps (paper_start ps i)
 
--- the bytes from the paper of trader i on
-abbrev pub from_paper : List ℕ → ℕ → List ℕ
-from_paper ps i = drop (paper_start ps i) ps
-
 -- of the bytes ps that are left the next paper is given, and the bytes after it are left
 abbrev pub GivesPaper : List ℕ → Option (Bor (List ℕ)) → List ℕ → Type 0
 GivesPaper ps given left = MatchOption given ⊥ (λ paper. (paper.now ≡ paper_at ps 0) × (left ≡ drop (length paper.now) ps))

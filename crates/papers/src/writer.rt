@@ -49,7 +49,7 @@ impl<'a> Writer<'a> {
     pub(crate) fn head(&mut self, own: u16, round: u16, stand: u16, members: u16)
         requires { self.old.at + 8 ≤ length self.old.out.now }
         ensures same_reference { self.new.out.ghost_name ≡ self.old.out.ghost_name }
-        ensures out { self.new.out.now ≡ written self.old.at (bytes_of own ++ (bytes_of round ++ (bytes_of stand ++ bytes_of members))) self.old.out.now }
+        ensures out { let at = self.old.at in self.new.out.now ≡ written (at + 6) (bytes_of members) (written (at + 4) (bytes_of stand) (written (at + 2) (bytes_of round) (written at (bytes_of own) self.old.out.now))) }
         ensures at { self.new.at ≡ self.old.at + 8 }
     {
         self.number(own);

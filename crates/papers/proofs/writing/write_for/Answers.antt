@@ -1,4 +1,4 @@
-use Rattle.std.proofs.Common.{◌≡◌, ◌++◌, length, refl, ap, ◌∙◌, arith, rules}
+use Rattle.std.proofs.Common.{◌≡◌, length, refl, ap, ◌∙◌, arith, rules}
 use Rattle.lists.specs.Format.{bytes_of, encode_stands}
 use Rattle.papers.specs.Paper.{paper_for, written}
 use Rattle.papers.proofs.Sources.{no_room, enough_room}
@@ -25,7 +25,8 @@ returns c =
     let l = c.args.list.now in
     let before = c.args.out.now in
     let size = paper_size sheet n i members round stand dearer l before c.requires c.round.ensures c.stand-stand.ensures.stand c.dearer_count-dearer.ensures.answer in
-    let one : c.head.new.self.out.now ≡ written 0 (bytes_of c.args.trader ++ (bytes_of c.round.result ++ (bytes_of c.stand-stand.result ++ bytes_of c.args.members))) c.args.out.now =
+    let one : c.head.new.self.out.now
+    ≡ written 6 (bytes_of c.args.members) (written 4 (bytes_of c.stand-stand.result) (written 2 (bytes_of c.round.result) (written 0 (bytes_of c.args.trader) c.args.out.now))) =
     c.head.ensures.out ∙ rw (c.over-writer.ensures.at, c.over-writer.ensures.out) in
     let two = c.ring-2.ensures.out ∙ ap (λ ring. written c.head.new.self.at (encode_stands ring) c.head.new.self.out.now) c.ring.ensures.ring in
     let ring = ap length c.ring.ensures.ring in
