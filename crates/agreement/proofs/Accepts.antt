@@ -29,8 +29,8 @@ unfolding difference
 same_bytes [] p = refl
 same_bytes (x ∷ xs) p = rw (eq-eqb x x refl) (same_bytes xs (suc p))
 
-none_of_two : (a b : Option Fault) → a ≡ None → b ≡ None → option_or a b ≡ None
-none_of_two a b p q = ap (λ o. option_or o b) p ∙ q
+none_of_two : {a b : Option Fault} → a ≡ None → b ≡ None → option_or a b ≡ None
+none_of_two {a} {b} p q = rw (p, q)
 
 no_more : (ps : List ℕ) (q : ℕ) → length ps ≤ q → end_fault ps q ≡ None
 no_more ps q end = rw (le-ltb q (length ps) end)
@@ -40,9 +40,6 @@ no_more ps q end = rw (le-ltb q (length ps) end)
 own_none : (list paper : List ℕ) (i : ℕ) → paper_check_fault list paper ≡ None → own_on paper ≡ i → own_fault list paper i ≡ None
 own_none list paper i passes own =
     ap (λ o. option_or o (cond (eqb (own_on paper) i) None (Some (PaperFault 0)))) passes ∙ ap (λ b. cond b None (Some (PaperFault 0))) (eq-eqb (own_on paper) i own)
-
-place_none : (ls : Lists) (ps paper : List ℕ) (i : ℕ) → nth_paper ps i ≡ paper → own_fault (own_list ls i) paper i ≡ None → place_fault ls ps i ≡ None
-place_none ls ps paper i is none = ap (λ xs. on_paper i (own_fault (own_list ls i) xs i)) is ∙ ap (on_paper i) none
 
 unlike_none : (paper right : List ℕ) → paper ≡ right → unlike_fault paper right ≡ None
 unlike_none paper right same = ap (λ xs. unlike_fault xs right) same ∙ ap (at_field right) (same_bytes right 0)
@@ -59,7 +56,7 @@ module _ (ls : Lists) (sheet : List ℕ) (can : Encodable ls) (right : sheets.sh
   each_none i h =
       let passes = papers_pass ls sheet i can right h in
       let own = own_written sheet (length ls) i (get_or ls i []) in
-      place_none ls ps (paper_of ls sheet i) i (nth_is ls sheet i h) (own_none (own_list ls i) (paper_of ls sheet i) i passes own)
+      ap (λ xs. on_paper i (own_fault (own_list ls i) xs i)) (nth_is ls sheet i h) ∙ ap (on_paper i) (own_none (own_list ls i) (paper_of ls sheet i) i passes own)
 
   end_none : refused (end_fault ps (paper_start ps (length ls))) ≡ None
   end_none = ap refused (no_more ps (paper_start ps (length ls)) (last_ends ls sheet))
@@ -73,21 +70,19 @@ module _ (ls : Lists) (sheet : List ℕ) (can : Encodable ls) (right : sheets.sh
   together_none : sheet_fault ls ps ≡ None
   together_none =
       ap (λ xs. option_or (refused (sheets.sheet_fault ls xs)) (first_fault (agree_fault ls ps xs) 0 (length ls))) made
-      ∙ none_of_two (refused (sheets.sheet_fault ls sheet)) (first_fault (agree_fault ls ps sheet) 0 (length ls)) (ap refused right)
+      ∙ none_of_two (ap refused right)
       (none_found (agree_fault ls ps sheet) 0 (length ls) (λ j h. beside_none j (omega arith)))
 
   year_none : year_fault ls ps ≡ None
   unfolding year_fault
   year_none =
       let each = none_found (place_fault ls ps) 0 (length ls) (λ j h. each_none j (omega arith)) in
-      none_of_two (first_fault (place_fault ls ps) 0 (length ls)) (option_or (refused (end_fault ps (paper_start ps (length ls)))) (sheet_fault ls ps)) each
-      (none_of_two (refused (end_fault ps (paper_start ps (length ls)))) (sheet_fault ls ps) end_none together_none)
+      none_of_two each (none_of_two end_none together_none)
 
 papers_none : (bs sheet : List ℕ) → fault bs ≡ None → sheets.sheet_fault (lists_of bs) sheet ≡ None → ((k : ℕ) → k < length sheet → get_or sheet k 0 < 256) →
     papers_fault bs (all_papers (lists_of bs) sheet) ≡ None
 papers_none bs sheet accepted right bytes =
-    none_of_two (refused (fault bs)) (year_fault (lists_of bs) (all_papers (lists_of bs) sheet)) (ap refused accepted)
-    (year_none (lists_of bs) sheet (accepted_encodable bs accepted) right bytes)
+    none_of_two (ap refused accepted) (year_none (lists_of bs) sheet (accepted_encodable bs accepted) right bytes)
 
 pub papers_of_a_sheet_agree : PapersOfASheetAgree
 unfolding PapersOfASheetAgree

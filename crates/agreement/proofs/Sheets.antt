@@ -1,6 +1,6 @@
 -- The sheet that the papers make: how it is written, and what is read on it.
 use Rattle.std.proofs.Common.{◌≡◌, ℕ, zero, suc, ◌+◌, ◌*◌, ◌<◌, ◌≤◌, List, ◌++◌, length, drop, refl, ◌∙◌, inl, inr, add-one, arith, length-append}
-use Rattle.std.proofs.lemmas.List.{append-nil, drop_all, get_or_append_left}
+use Rattle.std.proofs.lemmas.List.{get_or_append_left}
 use Rattle.std.proofs.lemmas.Bool.{cases_eq}
 use Rattle.lists.specs.Format.{number_at}
 use Rattle.lists.proofs.Encoding.{number_after, number_of_bytes}
@@ -30,12 +30,7 @@ entry_more ps d sheet paper k is so_far long room trader next at more =
     (put_there sheet (4 * k) (stand_on paper) (round_on paper) (omega arith)
     ∙ rw (add-one k, four, ← is, so_far) (put_behind (sheet_on ps k) d (4 * k) (stand_on (nth_paper ps k)) (round_on (nth_paper ps k)) (length_sheet_on ps k) room))
 
--- all of them
-pub all_entries : (ps d sheet : List ℕ) (k n : ℕ) → sheet ≡ sheet_on ps k ++ drop (4 * k) d → k ≡ n → length d ≡ 4 * n → sheet ≡ sheet_on ps n
-all_entries ps d sheet k n so_far all long =
-    let none = drop_all (4 * n) d (omega arith) in
-    so_far ∙ rw (all, none, append-nil)
-
+-- a number within the first part
 number_left : (xs ys : List ℕ) (p : ℕ) → p + 1 < length xs → number_at (xs ++ ys) p ≡ number_at xs p
 number_left xs ys p h =
     let low : p < length xs = omega arith in

@@ -23,13 +23,13 @@ fn check_own(list: &List, paper: &[u8], trader: u16) -> Result<(), Refusal>
 }
 
 // Checks the paper of each trader by itself, and hands on where the last one ends.
-pub(crate) fn check_each(year: &Year, bytes: &[u8]) -> Result<usize, Fault>
-    ensures { result ≡ unless (first_fault (place_fault year.now bytes.now) 0 (length year.now)) (paper_start bytes.now (length year.now)) }
+pub(crate) fn check_each(year: &Year, papers: &[u8]) -> Result<usize, Fault>
+    ensures { result ≡ unless (first_fault (place_fault year.now papers.now) 0 (length year.now)) (paper_start papers.now (length year.now)) }
 {
-    let mut papers = Papers::of(bytes);
+    let mut rest = Papers::of(papers);
     for (trader, list) in (0..year.traders()).zip(year.lists()) {
-        let paper = papers.next_paper();
+        let paper = rest.next_paper();
         check_own(&list, paper, trader).map_err(|refusal| Fault::Paper { trader, refusal })?;
     }
-    Ok(bytes.len() - papers.left().len())
+    Ok(papers.len() - rest.left().len())
 }

@@ -24,6 +24,7 @@ fn write_sheet(papers: &[u8], n: u16, sheet: &mut [u8])
     requires { length sheet.old ≡ 4 * n }
     ensures { sheet.new ≡ sheet_on papers.now n }
 {
+    // after a loop over `chunks_exact_mut` a proof knows the slice's length and not its bytes
     for (trader, paper) in (0..n).zip(Papers::of(papers)) {
         let paper = Paper::of(paper);
         write_entry(sheet, 4 * trader as usize, paper.stand(), paper.round());
@@ -82,24 +83,24 @@ fn check_written(sheet: &AcceptedSheet, given: &[u8], trader: u16) -> Result<(),
 }
 
 // The paper of each trader is the one for the sheet.
-fn check_all_written(sheet: &AcceptedSheet, bytes: &[u8]) -> Result<(), Fault>
+fn check_papers_written(sheet: &AcceptedSheet, papers: &[u8]) -> Result<(), Fault>
     requires { Encodable sheet.now.lists }
-    ensures { result ≡ unless (first_fault (agree_fault sheet.now.lists bytes.now sheet.now.bytes) 0 (length sheet.now.lists)) tt }
+    ensures { result ≡ unless (first_fault (agree_fault sheet.now.lists papers.now sheet.now.bytes) 0 (length sheet.now.lists)) tt }
 {
-    for (trader, given) in (0..sheet.traders()).zip(Papers::of(bytes)) {
-        check_written(sheet, given, trader).map_err(|refusal| Fault::Paper { trader, refusal })?;
+    for (trader, paper) in (0..sheet.traders()).zip(Papers::of(papers)) {
+        check_written(sheet, paper, trader).map_err(|refusal| Fault::Paper { trader, refusal })?;
     }
     Ok(())
 }
 
 // The papers make an accepted sheet, and each is the one for that sheet.
-pub(crate) fn check_together(year: &Year, bytes: &[u8]) -> Result<(), Fault>
+pub(crate) fn check_together(year: &Year, papers: &[u8]) -> Result<(), Fault>
     requires { Encodable year.now }
-    ensures { result ≡ unless (sheet_fault year.now bytes.now) tt }
+    ensures { result ≡ unless (sheet_fault year.now papers.now) tt }
 {
-    let mut sheet = [0; MOST_SHEET];
-    let sheet = &mut sheet[..4 * year.traders() as usize];
-    write_sheet(bytes, year.traders(), sheet);
-    let sheet = AcceptedSheet::check(year, sheet)?;
-    check_all_written(&sheet, bytes)
+    let mut bytes = [0; MOST_SHEET];
+    let bytes = &mut bytes[..4 * year.traders() as usize];
+    write_sheet(papers, year.traders(), bytes);
+    let sheet = AcceptedSheet::check(year, bytes)?;
+    check_papers_written(&sheet, papers)
 }

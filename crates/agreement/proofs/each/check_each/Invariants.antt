@@ -7,9 +7,9 @@ use Rattle.agreement.proofs.each.check_each.Given as goal
 -- the papers of the traders before are without a fault, and the lists and papers of the others are left
 abbrev pub invariant-loop-trader : goal.invariant-loop-trader
 invariant-loop-trader l = record {
-  fine : (i : ℕ) → i < (zip_first l.trader-iterator).start → place_fault l.year l.bytes i ≡ None;
+  fine : (i : ℕ) → i < (zip_first l.trader-iterator).start → place_fault l.year l.papers i ≡ None;
   lists : zip_second l.trader-iterator ≡ drop (zip_first l.trader-iterator).start l.year;
-  papers : l.papers ≡ from_paper l.bytes (zip_first l.trader-iterator).start;
+  papers : l.rest ≡ from_paper l.papers (zip_first l.trader-iterator).start;
   within : (zip_first l.trader-iterator).start ≤ length l.year;
   end : (zip_first l.trader-iterator).end ≡ length l.year;
 }

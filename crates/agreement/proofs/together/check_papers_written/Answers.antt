@@ -5,7 +5,7 @@ use Rattle.agreement.specs.Agreement.{agree_fault}
 use Rattle.agreement.proofs.Places.{paper_here, papers_after}
 use Rattle.agreement.proofs.Steps.{none_found, turn_fine, turn_wrong}
 use Rattle.agreement.proofs.Written.{beside_is}
-use Rattle.agreement.proofs.together.check_all_written.Goals as goal
+use Rattle.agreement.proofs.together.check_papers_written.Goals as goal
 
 pub loop-trader-preserved : goal.loop-trader-preserved
 loop-trader-preserved c =
@@ -13,11 +13,11 @@ loop-trader-preserved c =
     let steps = c.in-Some.ensures.steps in
     let i = (zip_first c.loop-trader.trader-iterator).start in
     let left = zip_second c.loop-trader.trader-iterator in
-    let own = paper_here c.args.bytes.now left _ i inv.papers steps.1.0 in
-    let here = beside_is c.args.sheet.now.lists c.args.bytes.now c.args.sheet.now.bytes _ i _ steps.0.1.1 c.requires (omega arith) own in
+    let own = paper_here c.args.papers.now left _ i inv.papers steps.1.0 in
+    let here = beside_is c.args.sheet.now.lists c.args.papers.now c.args.sheet.now.bytes _ i _ steps.0.1.1 c.requires (omega arith) own in
     record {
       fine = turn_fine _ i _ inv.fine steps.0.1.1 _ here _ _ c.check_written.ensures c.map_err.ensures.cases (λ f g k. search rules) _ c.in_ok-map_err.was _ steps.0.1.2;
-      papers = papers_after c.args.bytes.now left _ i inv.papers steps.1.0 _ steps.1.1 _ steps.0.1.2;
+      papers = papers_after c.args.papers.now left _ i inv.papers steps.1.0 _ steps.1.1 _ steps.0.1.2;
       end = omega arith;
     }
 
@@ -29,13 +29,13 @@ returns-in_err-map_err c =
     let i = (zip_first c.loop-trader.trader-iterator).start in
     let left = zip_second c.loop-trader.trader-iterator in
     let sheet = c.args.sheet.now in
-    let own = paper_here c.args.bytes.now left _ i inv.papers steps.1.0 in
-    let here = beside_is c.args.sheet.now.lists c.args.bytes.now c.args.sheet.now.bytes _ i _ steps.0.1.1 c.requires (omega arith) own in
+    let own = paper_here c.args.papers.now left _ i inv.papers steps.1.0 in
+    let here = beside_is c.args.sheet.now.lists c.args.papers.now c.args.sheet.now.bytes _ i _ steps.0.1.1 c.requires (omega arith) own in
     let below : c.in-Some.trader < length c.args.sheet.now.lists = omega arith in
-    rw (p.1, p.2, turn_wrong (agree_fault sheet.lists c.args.bytes.now sheet.bytes) i _ inv.fine steps.0.1.1 _ here _ _ c.check_written.ensures c.map_err.ensures.cases (λ f g k. search rules) _ below _ c.in_err-map_err.was)
+    rw (p.1, p.2, turn_wrong (agree_fault sheet.lists c.args.papers.now sheet.bytes) i _ inv.fine steps.0.1.1 _ here _ _ c.check_written.ensures c.map_err.ensures.cases (λ f g k. search rules) _ below _ c.in_err-map_err.was)
 
 pub returns : goal.returns
 returns c =
     let sheet = c.args.sheet.now in
     let all : length c.args.sheet.now.lists ≤ (zip_first c.loop-trader.trader-iterator).start = elim c.in-None.ensures.steps [ inl n ↦ omega arith | inr n ↦ absurd n.1 ] in
-    rw (none_found (agree_fault sheet.lists c.args.bytes.now sheet.bytes) 0 (length sheet.lists) (λ j h. c.loop-trader.invariant.fine j (omega arith)))
+    rw (none_found (agree_fault sheet.lists c.args.papers.now sheet.bytes) 0 (length sheet.lists) (λ j h. c.loop-trader.invariant.fine j (omega arith)))
