@@ -50,9 +50,3 @@ pub list_right : (list paper : List ℕ) (own : ℕ) → own ≡ owner paper →
     fields_fault (numbers (list_bytes list 0)) paper ≡ paper_check_fault list paper
 list_right list paper own who right =
     ap (λ o. option_or o (fields_fault (numbers (list_bytes list 0)) paper)) (sym right ∙ ap (own_list_fault list) who)
-
--- nobody was named at first
-pub no_marks : (n t : ℕ) → get_or (replicate n false) t false ≡ false
-no_marks zero t = refl
-no_marks (suc n) zero = refl
-no_marks (suc n) (suc t) = no_marks n t

@@ -8,13 +8,12 @@ use Rattle.refusals.specs.declared.Refusal.TheVariants.{StandTaken}
 use Rattle.theory.specs.Trade.{Lists}
 use Rattle.lists.specs.Format.{Begins, list_bytes}
 use Rattle.lists.proofs.Accepted.{begins_within, short_list}
-use Rattle.lists.proofs.Positions.{length_of_part}
 use Rattle.sheet.specs.Sheet.{stand_in, got_before, entry_fault, trader_fault, traders_fault}
 use Rattle.sheet.proofs.Checked.{fine_trader}
 use Rattle.sheet.proofs.Rest.{rest_here, rest_next}
 
 -- the marks of the stands got before: none, and one more
-no_marks : (n t : ℕ) → get_or (replicate n false) t false ≡ false
+pub no_marks : (n t : ℕ) → get_or (replicate n false) t false ≡ false
 no_marks zero t = refl
 no_marks (suc n) zero = refl
 no_marks (suc n) (suc t) = no_marks n t

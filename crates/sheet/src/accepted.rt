@@ -116,3 +116,40 @@ impl<'a> Iterator for Ring<'a> {
         Some(trader)
     }
 }
+
+#[cfg(test)]
+mod tests {
+    use super::*;
+
+    // trader 0 lists 1, trader 1 lists 2, trader 2 lists 1 and 0
+    const YEAR: [u8; 13] = [3, 0, 1, 1, 0, 1, 2, 0, 2, 1, 0, 0, 0];
+
+    // trader 0 keeps its stand in round 1, and traders 1 and 2 exchange theirs in round 0
+    const SHEET: [u8; 12] = [0, 0, 1, 0, 2, 0, 0, 0, 1, 0, 0, 0];
+
+    // the stand and the round of a trader, and its ring, filled up with 9
+    fn seen(trader: u16) -> [u16; 5] {
+        let mut seen = [9; 5];
+        let Ok(year) = Year::read(&YEAR) else {
+            return seen;
+        };
+        let Ok(sheet) = AcceptedSheet::check(&year, &SHEET) else {
+            return seen;
+        };
+        seen[0] = sheet.stand(trader);
+        seen[1] = sheet.round(trader);
+        for (place, member) in (2..5usize).zip(sheet.ring(trader)) {
+            seen[place] = member;
+        }
+        seen
+    }
+
+    #[test]
+    fn stands_rounds_and_rings(rt: HostRuntime) {
+        assert_eq!(rt; seen(0), [0, 1, 0, 9, 9]);
+        assert_eq!(rt; seen(1), [2, 0, 1, 2, 9]);
+        assert_eq!(rt; seen(2), [1, 0, 2, 1, 9]);
+        // a trader past the last: bytes that are missing count as 0
+        assert_eq!(rt; seen(7), [0, 0, 7, 0, 0]);
+    }
+}

@@ -1,9 +1,10 @@
 use Rattle.std.proofs.Common.{◌≡◌, ◌-◌, ◌<◌, [], ◌∷◌, length, refl, sym, ap, ◌∙◌, arith, length-set}
 use Rattle.std.proofs.lemmas.Result.{err_from_is_err_and}
 use Rattle.lists.proofs.Faults.{no_fault, refused_fault}
+use Rattle.sheet.proofs.Traders.{no_marks}
 use Rattle.papers.specs.Faults.{ring_fault}
 use Rattle.papers.specs.Paper.{ring_length, ring_on}
-use Rattle.papers.proofs.Rings.{member_below, named_more, no_marks, ring_done, ring_more}
+use Rattle.papers.proofs.Rings.{member_below, named_more, ring_done, ring_more}
 use Rattle.papers.proofs.paper.Paper.check_ring.Goals as goal
 
 pub loop-k-init : goal.loop-k-init
