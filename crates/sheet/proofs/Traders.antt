@@ -6,8 +6,6 @@ use Rattle.std.specs.Option.{option_or}
 use Rattle.refusals.specs.declared.Refusal.{Refusal}
 use Rattle.refusals.specs.declared.Refusal.TheVariants.{StandTaken}
 use Rattle.theory.specs.Trade.{Lists}
-use Rattle.lists.specs.Format.{Begins, list_bytes}
-use Rattle.lists.proofs.Accepted.{begins_within, short_list}
 use Rattle.sheet.specs.Sheet.{stand_in, got_before, entry_fault, trader_fault, traders_fault}
 use Rattle.sheet.proofs.Checked.{fine_trader}
 use Rattle.sheet.proofs.Rest.{rest_here, rest_next}
