@@ -3,9 +3,9 @@ use Rattle.std.proofs.Common.{◌≡◌, ℕ, ◌+◌, List, [], ◌∷◌, leng
 use Rattle.std.proofs.lemmas.List.{drop-drop, get_or-drop}
 use Rattle.theory.specs.Trade.{Lists}
 use Rattle.lists.specs.Format.{encode_list}
-use Rattle.papers.specs.Papers.{from_paper, nth_paper, paper_at}
+use Rattle.papers.specs.Papers.{nth_paper, paper_at}
 use Rattle.papers.specs.Trust.{own_list}
-use Rattle.papers.proofs.Splits.{next_from}
+use Rattle.papers.proofs.Splits.{from_paper, next_from}
 use Rattle.agreement.specs.Agreement.{on_paper, own_fault, place_fault}
 
 module _ (ls ts us : Lists) (i : ℕ) (l : List ℕ) (left : ts ≡ drop i ls) (more : ts ≡ l ∷ us) where

@@ -134,6 +134,7 @@ impl<'a> Search<'a> {
             }
             return None;
         }
+        // by turns: of `once(None).chain(..)` the invariant would have to say what is left of each part
         for turn in 0..traders as u16 + 1 {
             let choice = Search::choice_in(turn);
             if self.may_have(&chosen, trader, choice) {

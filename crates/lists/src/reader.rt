@@ -9,11 +9,12 @@ use refusals::Refusal;
 #[derive(Drop)]
 pub(crate) struct Reader<'a> {
     pub(crate) bytes: &'a [u8],
-    // the next byte
+    // the next byte: kept as a place, since refusals tell it
     pub(crate) at: usize,
     // how many stands exist
     pub(crate) stands: u16,
-    // the mark of the last list that named each stand: so a look at one entry tells a stand named twice
+    // the mark of the last list that named each stand, so that a look at one entry tells a stand named twice; in fixed memory, as a
+    // library crate takes no heap
     pub(crate) marks: [u16; 4000],
     pub(crate) ghost room: { stands ≤ length marks },
 }

@@ -99,6 +99,7 @@ impl<'a> Paper<'a> {
     fn check_ring(&self) -> Result<(), Refusal>
         ensures { result ≡ unless (ring_fault self.now [] (ring_length self.now) 0) tt }
     {
+        // in fixed memory, as a library crate takes no heap
         let mut named = [false; 4000];
         // by places and not by `ring()`: a trader is checked, and its field told, by its place
         for k in 0..self.ring_length() {

@@ -7,7 +7,7 @@ ghost use Rattle.pointing.specs.Pointing.{holder_in, points_from, stand_of, Firs
 
 use lists::stands::Stands;
 
-// the mark of a trader who is in
+// the mark of a trader who is in: a number, since it stands in a lent slice
 const IN: u16 = 1;
 
 #[derive(Clone, Copy, PartialEq, Eq, Debug)]

@@ -8,7 +8,7 @@ ghost use Rattle.rings.specs.Walk.{HasMark, Told, Walked, flag_of, unmet};
 use lists::reading::MOST_TRADERS;
 use refusals::{Lent, Refusal};
 
-// The mark of a trader whom no walk has met yet.
+// The mark of a trader whom no walk has met yet. Marks are numbers, since they stand in the lent work slice.
 const UNMET: u16 = 0;
 
 // The mark of a trader on a ring; every walk has a smaller mark of its own.

@@ -12,7 +12,7 @@ use pointing::point_to;
 use refusals::{Lent, Refusal};
 use rings::mark_rings;
 
-// The entry of a trader who is in, and that of one who is out.
+// The entry of a trader who is in, and that of one who is out: numbers, since they stand in the lent work slice.
 const IN: u16 = 1;
 
 const OUT: u16 = 0;

@@ -97,7 +97,7 @@ fn check_traders(year: &Year, sheet: &[u8]) -> Result<(), Refusal>
     ensures { result ≡ unless (traders_fault year.now sheet.now 0 (length year.now)) tt }
 {
     let n = year.traders();
-    // the stands that traders before got
+    // the stands that traders before got; in fixed memory, as a library crate takes no heap
     let mut taken = [false; 4000];
     for (trader, list) in (0..n).zip(year.lists()) {
         let got = stand_in(sheet, trader) as usize;

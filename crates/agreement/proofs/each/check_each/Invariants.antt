@@ -1,6 +1,6 @@
 use Rattle.std.proofs.Common.{◌≡◌, ℕ, ◌<◌, ◌≤◌, length, drop, None}
 use Rattle.std.specs.Iterator.Adapters.{zip_first, zip_second}
-use Rattle.papers.specs.Papers.{from_paper}
+use Rattle.papers.proofs.Splits.{from_paper}
 use Rattle.agreement.specs.Agreement.{place_fault}
 use Rattle.agreement.proofs.each.check_each.Given as goal
 

@@ -1,6 +1,6 @@
 use Rattle.std.proofs.Common.{◌≡◌, ℕ, ◌<◌, length, None}
 use Rattle.std.specs.Iterator.Adapters.{zip_first, zip_second}
-use Rattle.papers.specs.Papers.{from_paper}
+use Rattle.papers.proofs.Splits.{from_paper}
 use Rattle.agreement.specs.Agreement.{agree_fault}
 use Rattle.agreement.proofs.together.check_papers_written.Given as goal
 

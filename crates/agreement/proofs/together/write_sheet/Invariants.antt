@@ -1,6 +1,6 @@
 use Rattle.std.proofs.Common.{◌≡◌, ◌*◌, ◌≤◌, ◌++◌, drop}
 use Rattle.std.specs.Iterator.Adapters.{zip_first, zip_second}
-use Rattle.papers.specs.Papers.{from_paper}
+use Rattle.papers.proofs.Splits.{from_paper}
 use Rattle.agreement.specs.Agreement.{sheet_on}
 use Rattle.agreement.proofs.together.write_sheet.Given as goal
 
