@@ -53,7 +53,6 @@ impl fmt::Display for Fault {
 // Checks the papers of a year's traders: how many there are, or the first fault.
 #[tactic(auto, unfolding(crate::specs::Agreement::year_fault))]
 fn check_year(year: &Year, papers: &[u8]) -> Result<u16, Fault>
-    requires { Encodable year.now }
     ensures { result ≡ unless (year_fault year.now papers.now) (length year.now) }
 {
     let end = check_each(year, papers)?;

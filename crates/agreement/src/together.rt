@@ -84,10 +84,9 @@ fn check_written(sheet: &AcceptedSheet, given: &[u8], trader: u16) -> Result<(),
 
 // The paper of each trader is the one for the sheet.
 fn check_papers_written(sheet: &AcceptedSheet, papers: &[u8]) -> Result<(), Fault>
-    requires { Encodable sheet.now.lists }
     ensures { result ≡ unless (first_fault (agree_fault sheet.now.lists papers.now sheet.now.bytes) 0 (length sheet.now.lists)) tt }
 {
-    for (trader, paper) in (0..sheet.traders()).zip(Papers::of(papers)) {
+    for (trader, paper) in (0..sheet.year().traders()).zip(Papers::of(papers)) {
         check_written(sheet, paper, trader).map_err(|refusal| Fault::Paper { trader, refusal })?;
     }
     Ok(())
@@ -95,7 +94,6 @@ fn check_papers_written(sheet: &AcceptedSheet, papers: &[u8]) -> Result<(), Faul
 
 // The papers make an accepted sheet, and each is the one for that sheet.
 pub(crate) fn check_together(year: &Year, papers: &[u8]) -> Result<(), Fault>
-    requires { Encodable year.now }
     ensures { result ≡ unless (sheet_fault year.now papers.now) tt }
 {
     let mut bytes = [0; MOST_SHEET];

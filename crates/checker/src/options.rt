@@ -1,5 +1,5 @@
 // The words of the command line.
-use console::Ended;
+use console::{Ended, misused};
 use std::env;
 
 pub const USAGE: &str = "usage: check LISTS SHEET
@@ -36,17 +36,17 @@ pub(crate) fn read_options(rt: &HostRuntime) -> Result<Option<Command>, Ended> {
     for word in words {
         match word.as_str() {
             "--help" => {
-                print!(rt; "{}", USAGE)?;
+                print!(rt; "{USAGE}")?;
                 return Ok(None);
             }
             "--papers" => papers = true,
             _ if first.is_none() => first = Some(word),
             _ if second.is_none() => second = Some(word),
-            _ => return wrong(rt),
+            _ => return misused(rt, USAGE),
         }
     }
     let (Some(lists), Some(checked)) = (first, second) else {
-        return wrong(rt);
+        return misused(rt, USAGE);
     };
     let files = Files { lists, checked };
     Ok(Some(if papers {
@@ -54,10 +54,4 @@ pub(crate) fn read_options(rt: &HostRuntime) -> Result<Option<Command>, Ended> {
     } else {
         Command::Sheet(files)
     }))
-}
-
-// The words say nothing that the program can do.
-fn wrong<T>(rt: &HostRuntime) -> Result<T, Ended> {
-    eprint!(rt; "{}", USAGE)?;
-    Err(Ended::Failed)
 }

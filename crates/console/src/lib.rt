@@ -59,3 +59,11 @@ pub fn failed<T>(rt: &HostRuntime, program: &str, name: &str, e: io::Error) -> R
     eprintln!(rt; "{program}: {name}: {e}")?;
     Err(Ended::Failed)
 }
+
+// Tells how a program is used, on standard error, where its words say nothing that it can do.
+pub fn misused<T>(rt: &HostRuntime, usage: &str) -> Result<T, Ended>
+    ensures { IsErr result }
+{
+    eprint!(rt; "{usage}")?;
+    Err(Ended::Failed)
+}

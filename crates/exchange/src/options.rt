@@ -1,5 +1,5 @@
 // The words of the command line.
-use console::Ended;
+use console::{Ended, misused};
 use std::env;
 
 pub const USAGE: &str = "usage: exchange [--sheet FILE] [--papers FILE] [--paper-bytes FILE] [LISTS]
@@ -35,17 +35,17 @@ pub(crate) fn read_options(rt: &HostRuntime) -> Result<Option<Options>, Ended> {
             "--papers" => &mut pages,
             "--paper-bytes" => &mut paper_bytes,
             "--help" => {
-                print!(rt; "{}", USAGE)?;
+                print!(rt; "{USAGE}")?;
                 return Ok(None);
             }
             _ if lists.is_none() => {
                 lists = Some(word);
                 continue;
             }
-            _ => return wrong(rt),
+            _ => return misused(rt, USAGE),
         };
         let Some(name) = words.next() else {
-            return wrong(rt);
+            return misused(rt, USAGE);
         };
         *file = Some(name);
     }
@@ -55,10 +55,4 @@ pub(crate) fn read_options(rt: &HostRuntime) -> Result<Option<Options>, Ended> {
         pages,
         paper_bytes,
     }))
-}
-
-// The words say nothing that the program can do.
-fn wrong<T>(rt: &HostRuntime) -> Result<T, Ended> {
-    eprint!(rt; "{}", USAGE)?;
-    Err(Ended::Failed)
 }

@@ -1,5 +1,6 @@
 // The accepted lists of a year, and those of its traders.
 ghost use Rattle.std.specs.Prelude.{◌≡◌, ◌≤◌, length, slice_get};
+ghost use Rattle.lists.specs.Format.{Encodable};
 
 use crate::list::List;
 use std::marker::Model;
@@ -27,6 +28,7 @@ impl<'a> Year<'a> {
     pub fn traders(&self) -> u16
         ensures count { result ≡ length self.now }
         ensures most { result ≤ 4000 }
+        ensures lists { Encodable self.now }
     {
         self.count
     }

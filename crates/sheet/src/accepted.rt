@@ -129,19 +129,20 @@ mod tests {
 
     // the stand and the round of a trader, and its ring, filled up with 9
     fn seen(trader: u16) -> [u16; 5] {
-        let mut seen = [9; 5];
         let Ok(year) = Year::read(&YEAR) else {
-            return seen;
+            return [9; 5];
         };
         let Ok(sheet) = AcceptedSheet::check(&year, &SHEET) else {
-            return seen;
+            return [9; 5];
         };
-        seen[0] = sheet.stand(trader);
-        seen[1] = sheet.round(trader);
-        for (place, member) in (2..5usize).zip(sheet.ring(trader)) {
-            seen[place] = member;
-        }
-        seen
+        let mut ring = sheet.ring(trader);
+        [
+            sheet.stand(trader),
+            sheet.round(trader),
+            ring.next().unwrap_or(9),
+            ring.next().unwrap_or(9),
+            ring.next().unwrap_or(9),
+        ]
     }
 
     #[test]

@@ -14,7 +14,7 @@ loop-trader-preserved c =
     let i = (zip_first c.loop-trader.trader-iterator).start in
     let left = zip_second c.loop-trader.trader-iterator in
     let own = paper_here c.args.papers.now left _ i inv.papers steps.1.0 in
-    let here = beside_is c.args.sheet.now.lists c.args.papers.now c.args.sheet.now.bytes _ i _ steps.0.1.1 c.requires (omega arith) own in
+    let here = beside_is c.args.sheet.now.lists c.args.papers.now c.args.sheet.now.bytes _ i _ steps.0.1.1 (rw c.year.ensures at c.traders.ensures.lists) (omega arith) own in
     record {
       fine = turn_fine _ i _ inv.fine steps.0.1.1 _ here _ _ c.check_written.ensures c.map_err.ensures.cases (λ f g k. search rules) _ c.in_ok-map_err.was _ steps.0.1.2;
       papers = papers_after c.args.papers.now left _ i inv.papers steps.1.0 _ steps.1.1 _ steps.0.1.2;
@@ -30,7 +30,7 @@ returns-in_err-map_err c =
     let left = zip_second c.loop-trader.trader-iterator in
     let sheet = c.args.sheet.now in
     let own = paper_here c.args.papers.now left _ i inv.papers steps.1.0 in
-    let here = beside_is c.args.sheet.now.lists c.args.papers.now c.args.sheet.now.bytes _ i _ steps.0.1.1 c.requires (omega arith) own in
+    let here = beside_is c.args.sheet.now.lists c.args.papers.now c.args.sheet.now.bytes _ i _ steps.0.1.1 (rw c.year.ensures at c.traders.ensures.lists) (omega arith) own in
     let below : c.in-Some.trader < length c.args.sheet.now.lists = omega arith in
     rw (p.1, p.2, turn_wrong (agree_fault sheet.lists c.args.papers.now sheet.bytes) i _ inv.fine steps.0.1.1 _ here _ _ c.check_written.ensures c.map_err.ensures.cases (λ f g k. search rules) _ below _ c.in_err-map_err.was)
 
