@@ -77,6 +77,7 @@ fn check_like(given: &[u8], right: &[u8]) -> Result<(), Refusal>
 fn check_written(sheet: &AcceptedSheet, given: &[u8], trader: u16) -> Result<(), Refusal>
     ensures { result ≡ unless (option_or (trader_fault (length sheet.now.lists) trader) (option_or (room_fault 8169 (paper_of sheet.now.lists sheet.now.bytes trader)) (unlike_fault given.now (paper_of sheet.now.lists sheet.now.bytes trader)))) tt }
 {
+    // in fixed memory, here and below, as a library crate takes no heap
     let mut right = [0; MOST_PAPER];
     let size = write_paper(sheet, trader, &mut right)?;
     check_like(given, &right[..size])

@@ -11,7 +11,7 @@ use std::{fmt, fs, io};
 // The longest lists that can be accepted; one byte more tells a file that is too long.
 pub const MOST_LISTS: u64 = MOST_BYTES as u64 + 1;
 
-// Why a program ends with status 1; what there is to say has been printed.
+// Why a program ends with status 1. What there is to say of a refusal or a file was printed; of want of memory nothing is.
 #[derive(Clone, Copy, Debug)]
 pub enum Ended {
     Refused,

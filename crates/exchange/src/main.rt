@@ -59,20 +59,14 @@ fn report(heap: Global, done: &Done) -> Result<String, AllocError>
 }
 
 // The papers of all traders, one after another, in the order of their numbers.
-fn all_papers(heap: Global, done: &Done) -> Result<Vec<u8>, AllocError> {
-    let mut papers = Vec::new(heap);
-    let mut out = vec![in heap; 0u8; MOST_PAPER]?;
-    // the exchange's own lists and sheet are never refused, and there is room for the longest paper
-    if let Ok(year) = Year::read(&done.bytes)
-        && let Ok(sheet) = AcceptedSheet::check(&year, &done.sheet)
-    {
-        for trader in 0..year.traders() {
-            if let Ok(size) = write_paper(&sheet, trader, &mut out)
-                && let Some(paper) = out.get(..size)
-            {
-                papers.extend_from_slice(paper)?;
-            }
-        }
+fn all_papers(rt: &HostRuntime, done: &Done) -> Result<Vec<u8>, Ended> {
+    let year = Year::read(&done.bytes).or_else(|refusal| refused(rt, &refusal))?;
+    let sheet = AcceptedSheet::check(&year, &done.sheet).or_else(|refusal| refused(rt, &refusal))?;
+    let mut papers = Vec::new(rt.alloc());
+    let mut out = vec![in rt.alloc(); 0u8; MOST_PAPER]?;
+    for trader in 0..year.traders() {
+        let size = write_paper(&sheet, trader, &mut out).or_else(|refusal| refused(rt, &refusal))?;
+        papers.extend_from_slice(out.get(..size).unwrap_or(&[]))?;
     }
     Ok(papers)
 }
@@ -98,7 +92,7 @@ fn write_files(rt: &HostRuntime, options: &Options, done: &Done) -> Result<(), E
     if options.paper_bytes.is_none() && options.pages.is_none() {
         return Ok(());
     }
-    let papers = all_papers(rt.alloc(), done)?;
+    let papers = all_papers(rt, done)?;
     if let Some(name) = &options.paper_bytes {
         write_whole(rt, name, &papers)?;
     }

@@ -1,7 +1,10 @@
 -- Where the lists of a year begin, and the numbers that stand there.
-use Rattle.std.proofs.Common.{◌≡◌, ℕ, zero, suc, ◌+◌, ◌-◌, ◌*◌, ◌<◌, ◌≤◌, List, [], ◌∷◌, length, get_or, take, drop, refl, ap, ◌∙◌, arith}
-use Rattle.std.proofs.lemmas.List.{drop_more, take_all}
+use Rattle.std.proofs.Common.{◌≡◌, ℕ, zero, suc, ◌+◌, ◌-◌, ◌*◌, ◌<◌, ◌≤◌, List, [], ◌∷◌, length, get_or, take, drop, refl, ap, ◌∙◌, add-one, arith}
+use Rattle.std.proofs.lemmas.List.{drop_all, drop_more, length-drop, take_all}
 use Rattle.lists.specs.Format.{start, next_start, number_at, numbers, list_bytes, lists_from, lists_of}
+
+pub start_more : (bs : List ℕ) (i : ℕ) → start bs (i + 1) ≡ next_start bs (start bs i)
+start_more bs i = rw (add-one i)
 
 -- k two-byte numbers, the first of which begins at p
 abbrev pub numbers_from : List ℕ → ℕ → ℕ → List ℕ
@@ -49,6 +52,13 @@ numbers_are bs (suc k) p h =
     let two : 2 * suc k ≡ suc (suc (2 * k)) = omega arith in
     let ih = numbers_are bs k (p + 2) (omega arith) in
     rw (two, two_bytes bs p (omega arith), ih)
+
+-- where bytes are missing, the part is what is there
+pub part_past : (bs : List ℕ) (p : ℕ) → length bs ≤ p → list_bytes bs p ≡ []
+part_past bs p h = ap (take (2 * get_or bs p 0)) (drop_all (p + 1) bs (omega arith)) ∙ take_all (2 * get_or bs p 0) [] (omega arith)
+
+pub part_short : (bs : List ℕ) (p : ℕ) → length bs < next_start bs p → list_bytes bs p ≡ drop (p + 1) bs
+part_short bs p h = let left = length-drop (p + 1) bs in take_all (2 * get_or bs p 0) (drop (p + 1) bs) (omega arith)
 
 -- the lists, one for each trader
 pub count_from : (bs : List ℕ) (k p : ℕ) → length (lists_from bs k p) ≡ k

@@ -59,7 +59,7 @@ impl<'a> List<'a> {
         Stands::of(self.stand_bytes())
     }
 
-    // How many stands it has, at most 40.
+    // How many stands it has.
     pub fn len(&self) -> u8
         ensures { result ≡ length self.now }
     {

@@ -1,8 +1,8 @@
 // Reading the bytes of a year's lists, from front to back.
 ghost use Rattle.std.specs.Prelude.{◌≡◌};
-ghost use Rattle.lists.specs.Format.{count_fault, end_fault, fault, list_bytes, lists_of, number_at, numbers, own_list_fault, unless};
+ghost use Rattle.lists.specs.Format.{count_fault, end_fault, fault, list_bytes, lists_of, number_at, start, unless};
 
-use crate::bytes::number_in;
+use crate::bytes::{byte_at, number_in};
 use crate::reader::Reader;
 use crate::year::Year;
 use refusals::Refusal;
@@ -26,6 +26,32 @@ fn read_count(bytes: &[u8]) -> Result<u16, Refusal>
         return Err(Refusal::WrongCount);
     }
     Ok(traders)
+}
+
+// Where the list of a trader begins: its count's byte. It is found by going over the lists before it.
+pub fn start_of(bytes: &[u8], trader: u16) -> usize
+    ensures { result ≡ start bytes.now trader }
+{
+    // a place kept by hand: any bytes are taken, and those that were not accepted have no lists to go over
+    let mut position = 2;
+    for i in 0..trader {
+        position += 1 + 2 * byte_at(bytes, position) as usize;
+    }
+    position
+}
+
+// The bytes of the stands of the list that begins at byte `at`, a part of the bytes; where some are missing, those that are there.
+pub fn list_at(bytes: &[u8], at: usize) -> &[u8]
+    ensures { result.now ≡ list_bytes bytes.now at }
+{
+    if at >= bytes.len() {
+        return &bytes[0..0];
+    }
+    let size = 2 * bytes[at] as usize;
+    if bytes.len() - at - 1 < size {
+        return &bytes[at + 1..];
+    }
+    &bytes[at + 1..at + 1 + size]
 }
 
 // Nothing follows byte `end`.
@@ -112,12 +138,7 @@ mod tests {
             bytes.push(0)?;
         }
         assert_eq!(rt; outcome(bytes.as_slice()), (0, 41));
-        let lengths = Year::read(bytes.as_slice()).map(|year| (
-            year.list(0).map(|list| list.len()),
-            year.list(40).map(|list| list.len()),
-            year.list(41).is_none(),
-        ));
-        assert_eq!(rt; lengths, Ok((Some(40), Some(0), true)));
+        assert_eq!(rt; start_of(bytes.as_slice(), 1), 83);
         Ok(())
     }
 }

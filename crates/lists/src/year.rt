@@ -9,6 +9,7 @@ use std::marker::Model;
 #[derive(Drop)]
 pub struct Year<'a> {
     pub(crate) bytes: &'a [u8],
+    // how many traders there are, read once
     pub(crate) count: u16,
 }
 
@@ -55,6 +56,7 @@ impl<'a> Year<'a> {
 // The lists that are left, one after another.
 #[derive(Drop)]
 pub struct Lists<'a> {
+    // how many lists they are: contracts see them by it
     left: u16,
     bytes: &'a [u8],
 }

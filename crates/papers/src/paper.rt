@@ -1,4 +1,4 @@
-// A trader's paper by its bytes: the one place that says where each number stands. Bytes that are missing count as 0.
+// A trader's paper by its bytes. Bytes that are missing count as 0.
 ghost use Rattle.std.specs.Prelude.{◌≡◌, ◌+◌, ◌*◌, ◌≤◌, length};
 ghost use Rattle.papers.specs.Paper.{all_gone_on, count_on, count_place, gone_on, holder_on, own_on, ring_length, ring_on, round_on, stand_on, traders_on};
 

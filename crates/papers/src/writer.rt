@@ -10,6 +10,7 @@ use sheet::accepted::{AcceptedSheet, Ring};
 #[derive(Drop)]
 pub(crate) struct Writer<'a> {
     out: &'a mut [u8],
+    // kept as a place: of a rest that is cut off with each number a contract can't say what was written before it
     at: usize,
 }
 

@@ -41,6 +41,7 @@ impl Lent {
     pub fn place(self) -> usize
         ensures { result ≡ lent_place self }
     {
+        // by name and not by a cast: a place must not hang on the order of the declaration
         match self {
             Lent::Results => 0,
             Lent::Sheet => 1,

@@ -62,9 +62,9 @@ fn check_room(n: usize, results: &[u16], work: &[u16]) -> Result<(), Refusal>
     Ok(())
 }
 
-// That the parts are of one length is said here and twice below: a struct of several `&mut` parts has no proof with this kit.
 // The rounds of a year, and how many they are. `results` has where each trader who is in points, and so what it has got once it
 // is out; `work` has who is in, and the flags; `outs` gets the round in which each trader goes out.
+// That the parts are of one length is said here and twice below: a struct of several `&mut` parts did not prove.
 #[tactic(auto, using(crate::proofs::Stands::stands_start, crate::proofs::Stands::stands_bound, crate::proofs::Stands::count_at_end, crate::proofs::Stands::results_at_end, crate::proofs::Stands::outs_at_end))]
 fn all_rounds(
     year: &Year,

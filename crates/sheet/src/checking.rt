@@ -138,11 +138,13 @@ fn check_for(year: &Year, sheet: &[u8]) -> Result<u16, Refusal>
 }
 
 // A sheet is accepted exactly if it is valid.
+#[tactic(auto, using(crate::proofs::Checked::accepts_exactly))]
 pub fn accepts_exactly()
     ensures { AcceptsExactly }
 {}
 
 // What the exchange writes is accepted.
+#[tactic(auto, using(crate::proofs::Written::accepts_what_was_written))]
 pub fn accepts_what_was_written()
     ensures { AcceptsWhatWasWritten }
 {}

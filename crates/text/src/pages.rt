@@ -110,11 +110,13 @@ pub fn push_page(text: &mut String, paper: &[u8]) -> Result<(), AllocError>
 }
 
 // No line of the page of a paper that passes is wider than 72 columns.
+#[tactic(auto, using(crate::proofs::PageWidth::pages_are_narrow))]
 pub fn pages_are_narrow()
     ensures { PagesAreNarrow }
 {}
 
 // No line of the page of any bytes is wider than 74 columns.
+#[tactic(auto, using(crate::proofs::PageWidth::pages_of_any_bytes))]
 pub fn pages_of_any_bytes()
     ensures { PagesOfAnyBytes }
 {}

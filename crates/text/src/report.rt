@@ -19,8 +19,8 @@ fn stand_got(results: &[u16], trader: usize) -> usize
         .map_or(trader, |&stand| usize::from(stand))
 }
 
-// As the sheet's `Ring`, but over results: one over both would need a trait and a type for each, and be longer than this.
 // The traders of a ring who are still to come: `next` first, at most `left` of them, until the next would be `home`.
+// As the sheet's `Ring`, but over results: one over both would need a trait and a type for each, and be longer than this.
 #[derive(Drop)]
 struct Ring<'a> {
     results: &'a [u16],
@@ -98,19 +98,14 @@ fn push_ring(text: &mut String, results: &[u16], trader: usize) -> Result<(), Al
     push_more(text, ring)
 }
 
-// Appends the line of a trader, who has got this stand.
+// Appends the line of a trader.
 #[tactic(auto, unfolding(crate::specs::Report::line_of))]
-fn push_line(
-    text: &mut String,
-    results: &[u16],
-    trader: usize,
-    stand: u16,
-) -> Result<(), AllocError>
-    requires { stand ≡ stand_got results.now trader }
+fn push_line(text: &mut String, results: &[u16], trader: usize) -> Result<(), AllocError>
     ensures { OnOk result (string_bytes text.new ≡ string_bytes text.old ++ line_of results.now trader) }
 {
+    let stand = stand_got(results, trader);
     push_word(text, "trader ", trader)?;
-    if usize::from(stand) == trader {
+    if stand == trader {
         return text.push_str(" keeps\n");
     }
     push_word(text, " gets ", stand)?;
@@ -145,8 +140,8 @@ fn push_head(text: &mut String, rounds: u16, results: &[u16]) -> Result<(), Allo
 fn push_lines(text: &mut String, results: &[u16]) -> Result<(), AllocError>
     ensures { OnOk result (string_bytes text.new ≡ string_bytes text.old ++ lines_of results.now (length results.now)) }
 {
-    for (trader, &stand) in results.iter().enumerate() {
-        push_line(text, results, trader, stand)?;
+    for trader in 0..results.len() {
+        push_line(text, results, trader)?;
     }
     Ok(())
 }
@@ -160,13 +155,14 @@ pub fn push_report(text: &mut String, rounds: u16, results: &[u16]) -> Result<()
 }
 
 // Of the exchange's results, what is written as a trader's ring is its ring.
+#[tactic(auto, using(crate::proofs::RingText::ring_written))]
 pub fn ring_written()
     ensures { RingWritten }
 {}
 
 #[cfg(test)]
 mod tests {
-    use super::push_report;
+    use super::{push_line, push_report};
     use std::test::Fail;
 
     // 1 and 2 exchange their stands, in the second round
@@ -190,11 +186,10 @@ mod tests {
         }
         results.push(0)?;
         let mut text = String::new(rt.alloc());
-        push_report(&mut text, 1, results.as_slice())?;
-        assert!(rt;
-            text.as_str().contains(
-                "\ntrader 10 gets 11 ring 10 11 12 13 14 15 16 17 18 19 20 21 22 23 24 25 26 0 1 2 and 7 more\n"
-            )
+        push_line(&mut text, results.as_slice(), 10)?;
+        assert_eq!(rt;
+            text.as_str(),
+            "trader 10 gets 11 ring 10 11 12 13 14 15 16 17 18 19 20 21 22 23 24 25 26 0 1 2 and 7 more\n"
         );
         Ok(())
     }
