@@ -60,8 +60,15 @@ fn report(heap: Global, done: &Done) -> Result<String, AllocError>
 
 // The papers of all traders, one after another, in the order of their numbers.
 fn all_papers(rt: &HostRuntime, done: &Done) -> Result<Vec<u8>, Ended> {
-    let year = Year::read(&done.bytes).or_else(|refusal| refused(rt, &refusal))?;
-    let sheet = AcceptedSheet::check(&year, &done.sheet).or_else(|refusal| refused(rt, &refusal))?;
+    // by `match`: a closure may not answer what borrows
+    let year = match Year::read(&done.bytes) {
+        Ok(year) => year,
+        Err(refusal) => return refused(rt, &refusal),
+    };
+    let sheet = match AcceptedSheet::check(&year, &done.sheet) {
+        Ok(sheet) => sheet,
+        Err(refusal) => return refused(rt, &refusal),
+    };
     let mut papers = Vec::new(rt.alloc());
     let mut out = vec![in rt.alloc(); 0u8; MOST_PAPER]?;
     for trader in 0..year.traders() {
