@@ -1,7 +1,8 @@
 // What the programs share: bounded input, and how a program ends that did not do its work.
 #![tactic(auto)]
 
-ghost use Rattle.std.specs.Prelude.{◌≤◌, IfOk, IsErr, vec_len};
+ghost use Rattle.std.specs.Prelude.{◌≡◌, ◌≤◌, Err, IfOk, IsErr, vec_len};
+ghost use Rattle.console.specs.declared.Ended.TheVariants.{Failed};
 
 use lists::reading::MOST_BYTES;
 use std::alloc::AllocError;
@@ -19,12 +20,20 @@ pub enum Ended {
 }
 
 impl From<AllocError> for Ended {
+    ghost use Rattle.console.specs.declared.Ended.TheVariants.{Failed};
+
+    ghost from_gives = { λ _ ended. ended ≡ Failed };
+
     fn from(_e: AllocError) -> Ended {
         Ended::Failed
     }
 }
 
 impl From<io::Error> for Ended {
+    ghost use Rattle.console.specs.declared.Ended.TheVariants.{Failed};
+
+    ghost from_gives = { λ _ ended. ended ≡ Failed };
+
     fn from(_e: io::Error) -> Ended {
         Ended::Failed
     }
@@ -54,7 +63,7 @@ pub fn refused<T>(rt: &HostRuntime, why: &impl fmt::Display) -> Result<T, Ended>
 
 // Tells why a program cannot read or write a file, on standard error.
 pub fn failed<T>(rt: &HostRuntime, program: &str, name: &str, e: io::Error) -> Result<T, Ended>
-    ensures { IsErr result }
+    ensures { result ≡ Err Failed }
 {
     eprintln!(rt; "{program}: {name}: {e}")?;
     Err(Ended::Failed)
@@ -62,7 +71,7 @@ pub fn failed<T>(rt: &HostRuntime, program: &str, name: &str, e: io::Error) -> R
 
 // Tells how a program is used, on standard error, where its words say nothing that it can do.
 pub fn misused<T>(rt: &HostRuntime, usage: &str) -> Result<T, Ended>
-    ensures { IsErr result }
+    ensures { result ≡ Err Failed }
 {
     eprint!(rt; "{usage}")?;
     Err(Ended::Failed)

@@ -1,9 +1,11 @@
 -- The bytes of an accepted year, taken apart list by list.
-use Rattle.std.proofs.Common.{◌≡◌, ℕ, zero, suc, ◌+◌, ◌-◌, ◌*◌, ◌<◌, ◌≤◌, List, [], ◌∷◌, ◌++◌, length, get_or, take, drop, None, sym, refl, ap, ◌∙◌, arith}
+use Rattle.std.proofs.Common.{◌≡◌, ℕ, zero, suc, ◌+◌, ◌-◌, ◌*◌, ◌<◌, ◌≤◌, List, [], ◌∷◌, ◌++◌, length, get_or, take, drop, None, Ok, Result, sym, refl, ap, ◌∙◌, arith}
 use Rattle.std.proofs.lemmas.List.{length-append, length-drop, drop_more, take_at, drop_at, take_all, take_rest}
 use Rattle.theory.specs.Trade.{Lists}
-use Rattle.lists.specs.Format.{AreLists, IsList, IsYear, encode, encode_list, encode_lists, encode_stands, fault, list_bytes, list_fault, lists_from, lists_of, next_start, number_at, numbers}
+use Rattle.refusals.specs.declared.Refusal.{Refusal}
+use Rattle.lists.specs.Format.{AreLists, IsList, IsYear, count_fault, end_fault, lists_fault, unless, encode, encode_list, encode_lists, encode_stands, fault, list_bytes, list_fault, lists_from, lists_of, next_start, number_at, numbers}
 use Rattle.lists.proofs.Accepted.{good_length, good_list, good_numbers}
+use Rattle.lists.proofs.Faults.{count_right, no_fault}
 use Rattle.lists.proofs.Encoding.{length_of_stands, lists_again, stands_again, stands_written, writes_what_was_read}
 use Rattle.lists.proofs.Positions.{count_from, count_of_lists}
 
@@ -94,6 +96,15 @@ pub accepted_year : (bs : List ℕ) → fault bs ≡ None → ((k : ℕ) → k <
 accepted_year bs accepted bytes =
     let both = writes_what_was_read bs bytes accepted in
     record { count = sym (count_of_lists bs); can = both.0; whole = sym both.1 }
+
+-- what is read: the count, as many lists, and nothing after them
+pub read_year : (bs : List ℕ) (n end : ℕ) (u : Unit {0}) → ◌≡◌ {A = Result ℕ Refusal} (Ok n) (unless (count_fault bs) (number_at bs 0)) →
+    lists_fault bs n 0 n 2 ≡ end_fault bs end → ◌≡◌ {A = Result (Unit {0}) Refusal} (Ok u) (unless (end_fault bs end) tt) →
+    ((k : ℕ) → k < length bs → get_or bs k 0 < 256) → IsYear bs n
+read_year bs n end u count lists ends bytes =
+    let c = no_fault (count_fault bs) _ _ count in
+    let all : fault bs ≡ None = count_right bs c.0 ∙ rw (← c.1) (lists ∙ (no_fault (end_fault bs end) _ _ ends).0) in
+    rw c.1 (accepted_year bs all bytes)
 
 -- the bytes of a year, past the count of its traders
 module _ (bs : List ℕ) (n : ℕ) (year : IsYear bs n) where

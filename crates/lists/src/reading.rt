@@ -1,6 +1,6 @@
 // Reading the bytes of a year's lists, from front to back.
-ghost use Rattle.std.specs.Prelude.{◌≡◌};
-ghost use Rattle.lists.specs.Format.{count_fault, end_fault, fault, list_bytes, lists_of, number_at, start, unless};
+ghost use Rattle.std.specs.Prelude.{◌≡◌, ◌≤◌, Some, MatchResult};
+ghost use Rattle.lists.specs.Format.{count_fault, end_fault, fault, list_bytes, lists_fault, lists_of, number_at, start, unless};
 
 use crate::bytes::{byte_at, number_in};
 use crate::reader::Reader;
@@ -64,18 +64,27 @@ pub fn check_end(bytes: &[u8], end: usize) -> Result<(), Refusal>
     Ok(())
 }
 
+// Reads the lists of that many traders, and hands on where they end.
+fn read_lists(bytes: &[u8], traders: u16) -> Result<usize, Refusal>
+    requires { traders ≤ 4000 }
+    ensures { MatchResult result (λ end. lists_fault bytes.now traders 0 traders 2 ≡ end_fault bytes.now end) (λ f. lists_fault bytes.now traders 0 traders 2 ≡ Some f) }
+{
+    let mut reader = Reader::new(bytes, 2, traders);
+    for own in 0..traders {
+        reader.list(own, own + 1)?;
+    }
+    Ok(reader.at)
+}
+
 impl<'a> Year<'a> {
-    #[tactic(auto, using(crate::proofs::Faults::lists_done))]
+    #[tactic(auto, using(crate::proofs::Parts::read_year))]
     // Reads the lists of a year, or finds the first fault from front to back.
     pub fn read(bytes: &'a [u8]) -> Result<Year<'a>, Refusal>
         ensures { result ≡ unless (fault bytes.now) (lists_of bytes.now) }
     {
         let traders = read_count(bytes)?;
-        let mut reader = Reader::new(bytes, 2, traders);
-        for own in 0..traders {
-            reader.list(own, own + 1)?;
-        }
-        check_end(bytes, reader.at)?;
+        let end = read_lists(bytes, traders)?;
+        check_end(bytes, end)?;
         Ok(Year {
             bytes,
             count: traders,

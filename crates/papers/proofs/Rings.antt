@@ -1,9 +1,11 @@
 -- How the first fault of a paper's ring, and of its dearer stands, is found a step at a time.
-use Rattle.std.proofs.Common.{◌≡◌, ℕ, suc, ◌+◌, ◌-◌, ◌<◌, ◌≤◌, Bool, true, false, List, ◌∷◌, length, get_or, set, take, None, sym, ap, ◌∙◌, add-one, inl, inr, arith}
+use Rattle.std.proofs.Common.{◌≡◌, ℕ, suc, ◌+◌, ◌-◌, ◌<◌, ◌≤◌, Bool, true, false, List, ◌∷◌, length, get_or, set, take, None, Ok, Result, sym, ap, ◌∙◌, add-one, inl, inr, arith}
 use Rattle.std.specs.Option.{option_or}
 use Rattle.std.proofs.lemmas.Bool.{cases_eq}
 use Rattle.std.proofs.lemmas.List.{get_or-set_same, get_or-set_other}
-use Rattle.lists.specs.Format.{list_bytes, member, numbers, own_list_fault}
+use Rattle.refusals.specs.declared.Refusal.{Refusal}
+use Rattle.lists.proofs.Faults.{no_fault}
+use Rattle.lists.specs.Format.{list_bytes, member, numbers, own_list_fault, unless}
 use Rattle.papers.specs.Paper.{ring_on}
 use Rattle.papers.specs.Faults.{fields_fault, member_fault, owner, paper_check_fault, ring_fault, holder_fault, gone_fault, end_fault, dearer_fault}
 
@@ -46,7 +48,9 @@ unfolding dearer_fault
 dearer_end paper left j end none = rw none
 
 -- where the list by itself is right, only its paper can be in fault
-pub list_right : (list paper : List ℕ) (own : ℕ) → own ≡ owner paper → own_list_fault list own ≡ None →
-    fields_fault (numbers (list_bytes list 0)) paper ≡ paper_check_fault list paper
-list_right list paper own who right =
-    ap (λ o. option_or o (fields_fault (numbers (list_bytes list 0)) paper)) (sym right ∙ ap (own_list_fault list) who)
+pub list_right : (list paper stands : List ℕ) (own : ℕ) → own ≡ owner paper →
+    ◌≡◌ {A = Result (List ℕ) Refusal} (Ok stands) (unless (own_list_fault list own) (numbers (list_bytes list 0))) →
+    fields_fault stands paper ≡ paper_check_fault list paper
+list_right list paper stands own who right =
+    let list_is = no_fault (own_list_fault list own) _ _ right in
+    rw list_is.1 (ap (λ o. option_or o (fields_fault (numbers (list_bytes list 0)) paper)) (sym list_is.0 ∙ ap (own_list_fault list) who))

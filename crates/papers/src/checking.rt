@@ -183,6 +183,7 @@ impl<'a> Paper<'a> {
 
 // Checks a paper by itself and the trader's list, which is its count's byte and its stands: hands on whose paper it is, or the
 // first fault of the list and then of the paper. Where the paper ends before its trader's number, the list may be anybody's.
+#[tactic(auto, using(crate::proofs::Rings::list_right))]
 pub fn check_paper(list: &[u8], paper: &[u8]) -> Result<u16, Refusal>
     ensures { result ≡ unless (paper_check_fault list.now paper.now) (own_on paper.now) }
 {

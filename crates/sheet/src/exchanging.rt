@@ -1,5 +1,5 @@
 // The public exchange: lists in, results and sheet out.
-ghost use Rattle.std.specs.Prelude.{◌≡◌, ◌*◌, length};
+ghost use Rattle.std.specs.Prelude.{◌≡◌, ◌*◌, ◌≤◌, length, None};
 ghost use Rattle.lists.specs.Format.{fault, lists_of, number_at, unless};
 ghost use Rattle.rounds.specs.Run.{exchanged, results_left};
 ghost use Rattle.sheet.specs.Exchange.{PromisedBy, entries, exchange_fault, lent_fault, sheet_left, work_cleared};
@@ -25,7 +25,26 @@ pub fn exchange(
 {
     let n = traders_of(bytes)?;
     check_lent(n, results.len(), sheet.len(), work.len())?;
-    let n = n as usize;
+    exchange_all(bytes, n as usize, results, sheet, work)
+}
+
+// The exchange of the lists of n traders, which were accepted, with room for all that is written.
+fn exchange_all(
+    bytes: &[u8],
+    n: usize,
+    results: &mut [u16],
+    sheet: &mut [u8],
+    work: &mut [u16],
+) -> Result<Exchanged, Refusal>
+    requires accepted { fault bytes.now ≡ None }
+    requires traders { n ≡ number_at bytes.now 0 }
+    requires room { (n ≤ length results.old) × ((4 * n ≤ length sheet.old) × (3 * n ≤ length work.old)) }
+    ensures answer { result ≡ unless (exchange_fault bytes.now (length results.old) (length sheet.old) (length work.old)) (exchanged (lists_of bytes.now)) }
+    ensures results { results.new ≡ results_left result (lists_of bytes.now) results.old }
+    ensures sheet { sheet.new ≡ sheet_left result (lists_of bytes.now) sheet.old }
+    ensures work { work.new ≡ work_cleared result (lists_of bytes.now) work.old }
+    ensures promise { PromisedBy result bytes.now results.new sheet.new }
+{
     let results = &mut results[..n];
     let sheet = &mut sheet[..4 * n];
     let work = &mut work[..3 * n];

@@ -2,3 +2,4 @@ pub mod RingText
 pub mod PageText
 pub mod Columns
 pub mod PageWidth
+mod Digits

@@ -26,17 +26,17 @@ fn push_got(text: &mut String, own: u16, stand: u16) -> Result<(), AllocError>
     if stand == own {
         return text.push_str("You keep your stand");
     }
-    push_word(text, "You get stand ", stand)
+    push_word(text, "You get stand ", stand as usize)
 }
 
 // Appends the lines before the ring.
 fn push_head(text: &mut String, own: u16, round: u16, stand: u16) -> Result<(), AllocError>
     ensures { OnOk result (string_bytes text.new ≡ string_bytes text.old ++ head_text own round stand) }
 {
-    push_word(text, "Trader ", own)?;
+    push_word(text, "Trader ", own as usize)?;
     text.push_str("\n")?;
     push_got(text, own, stand)?;
-    push_word(text, ", in round ", round)?;
+    push_word(text, ", in round ", round as usize)?;
     text.push_str(".\nRing: ")
 }
 
@@ -54,10 +54,10 @@ fn push_step(text: &mut String, column: usize, trader: u16) -> Result<usize, All
     ensures { IfOk result (λ c. (string_bytes text.new ≡ string_bytes text.old ++ step_text column trader) × (c ≡ step_column column trader) × (c ≤ 72)) }
 {
     if fits(column, trader) {
-        push_word(text, " -> ", trader)?;
+        push_word(text, " -> ", trader as usize)?;
         return Ok(column + 4 + width(trader));
     }
-    push_word(text, "\n-> ", trader)?;
+    push_word(text, "\n-> ", trader as usize)?;
     Ok(3 + width(trader))
 }
 
@@ -66,7 +66,7 @@ fn push_ring(text: &mut String, paper: &Paper) -> Result<(), AllocError>
     ensures { OnOk result (string_bytes text.new ≡ string_bytes text.old ++ ring_text paper.now) }
 {
     let own = paper.own();
-    push_word(text, "", own)?;
+    push_word(text, "", own as usize)?;
     let mut column = 6 + width(own);
     let mut others = paper.ring();
     let _own = others.next();

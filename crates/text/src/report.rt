@@ -130,7 +130,7 @@ fn moved(results: &[u16]) -> usize
 fn push_head(text: &mut String, rounds: u16, results: &[u16]) -> Result<(), AllocError>
     ensures { OnOk result (string_bytes text.new ≡ string_bytes text.old ++ head_of rounds results.now) }
 {
-    push_word(text, "rounds ", rounds)?;
+    push_word(text, "rounds ", rounds as usize)?;
     push_word(text, " moved ", moved(results))?;
     text.push_str("\n")
 }

@@ -1,7 +1,7 @@
 // A generator of numbers that look random, from a seed, so that every run has the same years.
 ghost use Rattle.std.specs.Prelude.{◌<◌};
 
-#[derive(Drop)]
+#[derive(Clone, Copy)]
 pub struct Chance {
     state: u64,
 }

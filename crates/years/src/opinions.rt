@@ -1,11 +1,13 @@
 // A second opinion on a sheet: slow and plain, from the rules alone.
 use crate::entries::Entry;
 use crate::market::Year;
-use refusals::Refusal;
 use std::iter::once;
 
+// A refusal's number and place, worked out here from the rules, and not by the crate that tells them.
+pub type Told = (u8, usize);
+
 // The number of traders, or the first fault, trader after trader.
-pub(crate) fn opinion(year: &Year, entries: &[Entry]) -> Result<u16, Refusal> {
+pub(crate) fn opinion(year: &Year, entries: &[Entry]) -> Result<u16, Told> {
     let n = year.traders();
     for (trader, entry) in (0..n).zip(entries) {
         judge(year, entries, trader, *entry)?;
@@ -14,15 +16,15 @@ pub(crate) fn opinion(year: &Year, entries: &[Entry]) -> Result<u16, Refusal> {
 }
 
 // What is wrong with a trader's entry, in the order of the refusals' numbers.
-fn judge(year: &Year, entries: &[Entry], trader: u16, entry: Entry) -> Result<(), Refusal> {
+fn judge(year: &Year, entries: &[Entry], trader: u16, entry: Entry) -> Result<(), Told> {
     if entry.stand >= year.traders() || got_before(entries, trader, entry.stand) {
-        return Err(Refusal::StandTaken { trader });
+        return Err((7, trader as usize));
     }
     if let Some(place) = dearer_fault(year.list(trader), entries, trader, entry) {
-        return Err(Refusal::DearerLater { trader, place });
+        return Err((8, (trader as usize * 64).saturating_add(place)));
     }
     if round_of(entries, entry.stand) != Some(entry.round) {
-        return Err(Refusal::HolderElsewhere { trader });
+        return Err((9, trader as usize));
     }
     Ok(())
 }
@@ -36,14 +38,12 @@ fn got_before(entries: &[Entry], trader: u16, stand: u16) -> bool {
 }
 
 // The place of the first dearer stand whose holder did not go out before the trader.
-fn dearer_fault(list: &[u16], entries: &[Entry], trader: u16, entry: Entry) -> Option<u8> {
+fn dearer_fault(list: &[u16], entries: &[Entry], trader: u16, entry: Entry) -> Option<usize> {
     // the own stand comes past the list, and its holder, the trader, went out in that very round
-    let place = list
-        .iter()
+    list.iter()
         .chain(once(&trader))
         .take_while(|stand| **stand != entry.stand)
-        .position(|stand| round_of(entries, *stand).is_none_or(|round| round >= entry.round))?;
-    u8::try_from(place).ok()
+        .position(|stand| round_of(entries, *stand).is_none_or(|round| round >= entry.round))
 }
 
 // The round in which the holder of a stand went out.

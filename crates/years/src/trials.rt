@@ -95,7 +95,10 @@ impl<'a> Trial<'a> {
     // The checker accepts the sheet with these entries. Its answer is held against the second opinion.
     fn accepted(&self, entries: &[Entry], tally: &mut Tally) -> Result<bool, AllocError> {
         let sheet = write_entries(self.heap, entries)?;
-        let answer = check(&self.bytes, &sheet);
+        let answer = check(&self.bytes, &sheet).map_err(|refusal| (
+            refusal.number(),
+            refusal.place(),
+        ));
         if answer != opinion(self.year, entries) {
             tally.opinions_differ += 1;
         }
