@@ -1,19 +1,22 @@
 -- The promise of the public exchange, from the theory of the exchange and from what was written.
-use Rattle.std.proofs.Common.{◌≡◌, ℕ, zero, suc, ◌+◌, ◌*◌, ◌<◌, ◌≤◌, List, [], ◌++◌, length, get_or, drop, set, replicate, None, sym, refl, ap, ◌∙◌, arith}
+use Rattle.std.proofs.Common.{◌≡◌, ℕ, zero, suc, ◌+◌, ◌*◌, ◌<◌, ◌≤◌, List, [], ◌++◌, length, get_or, drop, set, replicate, None, Some, Option, sym, refl, ap, ◌∙◌, arith}
 use Rattle.std.specs.List.{range_with_len, flat_map}
 use Rattle.std.proofs.lemmas.Bool.{lt-ltb, ltb-true}
 use Rattle.std.proofs.lemmas.List.{get_or_append_left, set-get_or, append-nil, drop_all}
 use Rattle.lists.specs.Format.{bytes_of, fault, lists_of, number_at}
 use Rattle.theory.specs.Promise.{rank}
 use Rattle.theory.specs.Trade.{Lists, out, result}
+use Rattle.std.specs.Option.{option_or}
+use Rattle.refusals.specs.declared.Refusal.{Refusal}
 use Rattle.lists.proofs.Accepted.{accepted_proper}
+use Rattle.lists.proofs.Positions.{count_of_lists}
 use Rattle.lists.proofs.Encoding.{writes_what_was_read}
 use Rattle.theory.proofs.Certificates.{turns}
 use Rattle.theory.proofs.Exchange.{certificate}
 use Rattle.theory.proofs.Finite.{preimage}
 use Rattle.theory.proofs.Promises.{result_apart, result_below, result_own, result_truthful, result_unbettered}
 use Rattle.rounds.proofs.Law.{out_at, result_at}
-use Rattle.rounds.specs.Run.{outs_of, results_of}
+use Rattle.rounds.specs.Run.{outs_of, results_of, room_fault, run_fault}
 use Rattle.sheet.specs.Exchange.{Promised, entries}
 use Rattle.sheet.specs.Sheet.{entry, sheet_of}
 use Rattle.sheet.proofs.Written.{length_sheet, round_written, stand_written}
@@ -76,6 +79,17 @@ promised bs xs ys bytes accepted =
           result_unbettered ls group share within apart (λ j l m. rw (at j l) at (well j l m)) i h g ∙ sym (at i h);
       no_gain = λ i other h _. rw (at i h) (no_gain ls i other h);
     }
+
+-- slices that are just long enough leave the bytes alone to be refused
+pub room_enough : (bs : List ℕ) (results work : ℕ) → results ≡ length (lists_of bs) → work ≡ 3 * results → run_fault bs results work ≡ fault bs
+room_enough bs results work r w =
+    let count = count_of_lists bs in
+    let none : room_fault (number_at bs 0) results work ≡ None = grind arith in
+    rw none (option_or_none (fault bs))
+  where
+    option_or_none : (o : Option Refusal) → option_or o None ≡ o
+    option_or_none (Some f) = refl
+    option_or_none None = refl
 
 -- What stands in the lent slices at the end, of which n traders use all.
 module _ (ls : Lists) (n : ℕ) (results₀ work₀ results work : List ℕ) (traders : n ≡ length ls) (room : length results₀ ≡ n)

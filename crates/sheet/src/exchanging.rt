@@ -1,8 +1,9 @@
 // The public exchange: lists in, results and sheet out.
-ghost use Rattle.std.specs.Prelude.{◌≡◌, ◌*◌, ◌≤◌, length, None};
+ghost use Rattle.std.specs.Prelude.{◌≡◌, ℕ, ◌*◌, List, ◌++◌, length, replicate, IfOk, MatchResult};
 ghost use Rattle.lists.specs.Format.{fault, lists_of, number_at, unless};
-ghost use Rattle.rounds.specs.Run.{exchanged, results_left};
+ghost use Rattle.rounds.specs.Run.{exchanged, results_left, results_of};
 ghost use Rattle.sheet.specs.Exchange.{PromisedBy, entries, exchange_fault, lent_fault, sheet_left, work_cleared};
+ghost use Rattle.sheet.specs.Sheet.{sheet_of};
 
 use crate::entries::write_entry;
 use lists::year::Year;
@@ -11,6 +12,7 @@ use rounds::running::{Exchanged, run_rounds};
 
 // The exchange of a year: `results` gets the stand of each trader, `sheet` the stand and the round of each, in their order.
 // `work` has at least 3 n entries, which are cleared at the end. A refusal changes nothing that is lent.
+#[tactic(auto, using(lists::proofs::Positions::count_of_lists))]
 pub fn exchange(
     bytes: &[u8],
     results: &mut [u16],
@@ -25,29 +27,29 @@ pub fn exchange(
 {
     let n = traders_of(bytes)?;
     check_lent(n, results.len(), sheet.len(), work.len())?;
-    exchange_all(bytes, n as usize, results, sheet, work)
+    let n = n as usize;
+    exchange_whole(
+        bytes,
+        &mut results[..n],
+        &mut sheet[..4 * n],
+        &mut work[..3 * n],
+    )
 }
 
-// The exchange of the lists of n traders, which were accepted, with room for all that is written.
-fn exchange_all(
+// The exchange of a year, in slices that are just as long as it wants them.
+fn exchange_whole(
     bytes: &[u8],
-    n: usize,
     results: &mut [u16],
     sheet: &mut [u8],
     work: &mut [u16],
 ) -> Result<Exchanged, Refusal>
-    requires accepted { fault bytes.now ≡ None }
-    requires traders { n ≡ number_at bytes.now 0 }
-    requires room { (n ≤ length results.old) × ((4 * n ≤ length sheet.old) × (3 * n ≤ length work.old)) }
-    ensures answer { result ≡ unless (exchange_fault bytes.now (length results.old) (length sheet.old) (length work.old)) (exchanged (lists_of bytes.now)) }
-    ensures results { results.new ≡ results_left result (lists_of bytes.now) results.old }
-    ensures sheet { sheet.new ≡ sheet_left result (lists_of bytes.now) sheet.old }
-    ensures work { work.new ≡ work_cleared result (lists_of bytes.now) work.old }
-    ensures promise { PromisedBy result bytes.now results.new sheet.new }
+    requires results { length results.old ≡ length (lists_of bytes.now) }
+    requires sheet { length sheet.old ≡ 4 * length results.old }
+    requires work { length work.old ≡ 3 * length results.old }
+    ensures answer { result ≡ unless (fault bytes.now) (exchanged (lists_of bytes.now)) }
+    ensures left { MatchResult result (λ _. (results.new ≡ results_of (lists_of bytes.now)) × (sheet.new ≡ sheet_of (lists_of bytes.now)) × (work.new ≡ replicate (3 * length (lists_of bytes.now)) 0)) (λ _. (results.new ≡ results.old) × (sheet.new ≡ sheet.old) × (work.new ≡ work.old)) }
+    ensures promise { (xs ys : List ℕ) → PromisedBy result bytes.now (results.new ++ xs) (sheet.new ++ ys) }
 {
-    let results = &mut results[..n];
-    let sheet = &mut sheet[..4 * n];
-    let work = &mut work[..3 * n];
     let exchanged = run_rounds(bytes, results, work)?;
     write_sheet(sheet, results, work);
     work.fill(0);
@@ -57,7 +59,8 @@ fn exchange_all(
 // How many traders the lists of a year have.
 #[tactic(auto, using(lists::proofs::Positions::count_of_lists))]
 fn traders_of(bytes: &[u8]) -> Result<u16, Refusal>
-    ensures { result ≡ unless (fault bytes.now) (number_at bytes.now 0) }
+    ensures answer { result ≡ unless (fault bytes.now) (number_at bytes.now 0) }
+    ensures count { IfOk result (λ n. n ≡ length (lists_of bytes.now)) }
 {
     Ok(Year::read(bytes)?.traders())
 }

@@ -6,7 +6,7 @@ use crate::opinions::opinion;
 use crate::tallies::Tally;
 use groups::bettering;
 use papers::checking::check_paper;
-use papers::writing::{MOST_PAPER, paper};
+use papers::writing::paper;
 use sheet::checking::check;
 use sheet::exchanging::exchange;
 use std::alloc::{AllocError, Global};
@@ -16,6 +16,9 @@ const FEW: u16 = 4;
 
 // How many damaged sheets are made of each sheet.
 const DAMAGED: u8 = 8;
+
+// The longest paper of a year of six has 8 + 2 * 6 + 1 + 4 * 5 bytes.
+const PAPER_ROOM: usize = 64;
 
 // A year, and what the exchange gives for it.
 #[derive(Drop)]
@@ -118,7 +121,7 @@ impl<'a> Trial<'a> {
 
     // Whose paper it is that is written for a trader, if it is accepted with the list.
     fn paper_for(&self, trader: u16, list: &[u8]) -> Option<u16> {
-        let mut out = [0; MOST_PAPER];
+        let mut out = [0; PAPER_ROOM];
         let length = paper(&self.bytes, &self.sheet, trader, &mut out).ok()?;
         check_paper(list, out.get(..length)?).ok()
     }
